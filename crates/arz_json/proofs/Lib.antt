@@ -1,0 +1,12 @@
+pub mod Conversion
+pub mod Induction
+pub mod Layers
+pub mod Putting
+pub mod Printing
+pub mod Forms
+pub mod Pointers
+pub mod Parts
+pub mod Readings
+pub mod Places
+pub mod Trades
+pub mod Puts

@@ -1,0 +1,29 @@
+//! JSON values (RFC 8259) as trees that contracts see as plain data: reading them from bytes,
+//! printing them, copying, comparing, and naming their parts by JSON Pointers (RFC 6901).
+//!
+//! `serde_json` reads and prints. An integer of -2^63 to 2^64 - 1 is kept; a number with a fraction or
+//! an exponent, `-0` and an integer past that range are `Json::Opaque`.
+#![tactic(auto)]
+
+mod compare;
+mod copies;
+mod look;
+mod many;
+mod placing;
+mod pointer;
+mod reader;
+#[cfg(test)]
+mod tests;
+mod text;
+mod tree;
+mod writer;
+
+pub use compare::same;
+pub use copies::{copy, holds_opaque};
+pub use many::Many;
+pub use placing::{PutFault, put};
+pub use pointer::{array_index, at};
+pub use reader::{JsonFault, read};
+pub use text::{Bytes, Text};
+pub use tree::{Json, Location, Member, Members, Named, Refusal, Style};
+pub use writer::{CompactFault, compact};
