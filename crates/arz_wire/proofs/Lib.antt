@@ -1,0 +1,9 @@
+pub mod Numbers
+pub mod Layers
+pub mod Once
+pub mod Bytes
+pub mod Rows
+pub mod Names
+pub mod Found
+pub mod Entered
+pub mod Again

@@ -1,0 +1,4 @@
+use Rattle.arz_wire.proofs.items.+number_front.Given as goal
+
+abbrev pub decreases-number_front : goal.decreases-number_front
+decreases-number_front l = l.more

@@ -1,0 +1,18 @@
+//! The wire form of trees: one spelling in bytes for each JSON tree, written, and read with the first
+//! fault told by its place.
+#![tactic(auto)]
+
+mod entry;
+mod fault;
+mod items;
+pub mod laws;
+mod number;
+mod reading;
+#[cfg(test)]
+mod tests;
+mod writing;
+
+pub use entry::{Entry, Mark, decode};
+pub use fault::WireFault;
+pub use reading::read;
+pub use writing::write;
