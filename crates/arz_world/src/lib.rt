@@ -1,0 +1,19 @@
+//! What the program reads and writes: requests and replies, the traits of the outside, and forms of
+//! them in memory.
+#![tactic(auto)]
+
+mod calls;
+mod files;
+mod memory_files;
+mod memory_sink;
+mod messages;
+mod sink;
+#[cfg(test)]
+mod tests;
+
+pub use calls::note_fault;
+pub use files::{FileFault, Files};
+pub use memory_files::{MemoryFiles, NamedBytes};
+pub use memory_sink::MemorySink;
+pub use messages::{Header, Reply, Request, Sent, Server};
+pub use sink::{Sink, SinkFault};
