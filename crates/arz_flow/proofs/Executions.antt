@@ -1,0 +1,144 @@
+-- The laws of asks and ends.
+use Rattle.std.proofs.Common.{◌≡◌, ◌≢◌, ℕ, ◌+◌, ◌-◌, ◌≤◌, max, List, [], ◌∷◌, ◌++◌, length, Bool, true, false, Some, None, ap, refl, sym, ◌∙◌, arith, subst, append-nil, length-append}
+use Rattle.arz_flow.specs.declared.answers.Ask.{Ask}
+use Rattle.arz_flow.specs.declared.answers.Answer.{Answer}
+use Rattle.arz_flow.specs.declared.bundle.Bundle.{Bundle}
+use Rattle.arz_flow.specs.Play.{Completed, Broke, Play, Spent, Lost, Out, Ends, Gives}
+use Rattle.arz_flow.specs.Cases.{Runs, script}
+use Rattle.arz_flow.specs.declared.answers.End.{End}
+use Rattle.arz_flow.specs.declared.answers.End.TheVariants.{Out as EndOut}
+use Rattle.arz_flow.specs.Executions.{fits, HasPace, start, execution, pace, fuel, whole, asks_of, end_of, TookAll, asks, end, IsPrefixOf}
+use Rattle.arz_flow.specs.Laws.{OneEnd, OneMore, PrefixFits}
+use Rattle.arz_flow.specs.Stands.{Comes}
+use Rattle.arz_flow.proofs.Below.{Below, play_below}
+use Rattle.arz_flow.proofs.Grows.{Grows, play_grows}
+use Rattle.arz_flow.proofs.Extends.{Goes, Extends, play_extends}
+use Rattle.arz_flow.proofs.Bounded.{Good, play_good}
+use Rattle.arz_flow.proofs.Fuel.{local, owes, outs, Fine, script_bounded, local_pos}
+
+abbrev In_time : ℕ → ℕ → ℕ → Play → Type 0
+In_time owed left up p = Good pace local owes outs Fine owed left up p
+
+enough : (b : Bundle) (r : List Answer) → In_time 1 (length r) 2 (whole b r)
+enough b r =
+    play_good pace local owes outs Fine (script b)
+    (λ g v n a t fine le gap. script_bounded b pace (omega arith) g v n a t fine le gap)
+    local_pos (fuel (length r)) (Runs b.workflow b.inputs) (start r) tt (omega arith) (omega arith) (omega arith)
+
+good_ends : (o l u : ℕ) (p : Play) → u ≤ pace → In_time o l u p → HasPace pace p
+good_ends o l u Spent le g = g
+good_ends o l u Lost le g = tt
+good_ends o l u (Out q s) le g = g
+good_ends o l u (Ends c s) le g = g
+good_ends o l u (Gives r t) le g = (g.1, omega (arith, g.2, le))
+
+paced : (b : Bundle) (r : List Answer) → HasPace pace (whole b r)
+paced b r = good_ends 1 (length r) 2 (whole b r) (omega arith) (enough b r)
+
+pace_over : (m : ℕ) (p : Play) → HasPace m p → p ≢ Spent
+pace_over m p h e = subst (HasPace m) e h
+
+pub below_same : (p q : Play) → Below p q → p ≢ Spent → q ≡ p
+below_same Spent q b n = absurd (n refl)
+below_same Lost q b n = b
+below_same (Out a s) q b n = b
+below_same (Ends c s) q b n = b
+below_same (Gives r s) q b n = b
+
+over_whole : (b : Bundle) (r : List Answer) → whole b r ≢ Spent
+over_whole b r = pace_over pace (whole b r) (paced b r)
+
+same_above : (b : Bundle) (r : List Answer) (n : ℕ) → fuel (length r) ≤ n → execution b r n ≡ whole b r
+same_above b r n le = below_same (whole b r) (execution b r n) (play_below (script b) (fuel (length r)) n _ (start r) le) (over_whole b r)
+
+same_over : (b : Bundle) (r : List Answer) (n : ℕ) → execution b r n ≢ Spent → execution b r n ≡ whole b r
+same_over b r n over =
+    let m = max n (fuel (length r)) in
+    sym (below_same (execution b r n) (execution b r m) (play_below (script b) n m _ (start r) (omega arith)) over) ∙ same_above b r m (omega arith)
+
+pub one_end : OneEnd
+one_end b r = (over_whole b r, same_above b r, same_over b r, paced b r)
+
+nothing_left : (xs : List Ask) (ys : List Answer) → length xs + length ys ≡ 0 → (xs ≡ []) × (ys ≡ [])
+nothing_left [] [] e = (refl, refl)
+nothing_left (x ∷ xs) ys e = absurd (omega (arith, e))
+nothing_left [] (y ∷ ys) e = absurd (omega (arith, e))
+
+not_empty : (xs : List Answer) (x : Answer) (rest : List Answer) → xs ++ x ∷ rest ≡ [] → ⊥
+not_empty [] x rest e = cc
+not_empty (y ∷ xs) x rest e = cc
+
+-- after the last answer
+grown : (asked : List Ask) (p : Play) → Grows asked 0 p → p ≢ Spent → TookAll p × (asks_of p ≡ asked)
+grown asked Spent g n = absurd (n refl)
+grown asked Lost g n = absurd (omega (arith, g))
+grown asked (Out q s) g n = let h = nothing_left g.added s.left g.count in (h.1, g.asks ∙ rw h.0 (append-nil asked))
+grown asked (Ends c s) g n = let h = nothing_left g.added s.left g.count in (h.1, g.asks ∙ rw h.0 (append-nil asked))
+grown asked (Gives r s) g n = let h = nothing_left g.added s.left g.count in (h.1, g.asks ∙ rw h.0 (append-nil asked))
+
+takes_one : (q : Ask) (x : Answer) (p p' : Play) → Extends (x ∷ []) p p' → end_of p ≡ Some (EndOut q) → fits q x ≡ true → p' ≢ Spent → TookAll p' × (asks_of p' ≡ asks_of p ++ q ∷ [])
+takes_one q x Spent p' h e f n = absurd cc
+takes_one q x Lost p' h e f n = absurd cc
+takes_one q x (Ends c s) p' h e f n = absurd cc
+takes_one q x (Gives (Completed outputs) s) p' h e f n = absurd cc
+takes_one q x (Gives (Broke outputs) s) p' h e f n = absurd cc
+takes_one q x (Out a s) p' h e f n =
+    let same : a ≡ q = cc in
+    let g : Goes (fits q x) (s.asked ++ q ∷ []) 0 p' = subst (λ z. Goes (fits z x) (s.asked ++ z ∷ []) 0 p') same h.1 in
+    let g' : Goes true (s.asked ++ q ∷ []) 0 p' = subst (λ z. Goes z (s.asked ++ q ∷ []) 0 p') f g in
+    grown (s.asked ++ q ∷ []) p' g' n
+
+fuel_le : (m n : ℕ) → m ≤ n → fuel m ≤ fuel n
+fuel_le m n le = let e : n ≡ m + (n - m) = omega arith in rw e (omega arith)
+
+pub one_more : OneMore
+one_more b r q x fit e f =
+    let n = fuel (length (r ++ x ∷ [])) in
+    let n_le : fuel (length r) ≤ n = longer in
+    let ext : Extends (x ∷ []) (execution b r n) (whole b (r ++ x ∷ [])) = play_extends (script b) (x ∷ []) n _ (start r) in
+    let ext' : Extends (x ∷ []) (whole b r) (whole b (r ++ x ∷ [])) = subst (λ p. Extends (x ∷ []) p (whole b (r ++ x ∷ []))) (same_above b r n n_le) ext in
+    takes_one q x (whole b r) (whole b (r ++ x ∷ [])) ext' e f (over_whole b (r ++ x ∷ []))
+  where
+    longer : fuel (length r) ≤ fuel (length (r ++ x ∷ []))
+    longer = fuel_le (length r) (length (r ++ x ∷ [])) (omega (arith, length-append r (x ∷ [])))
+
+begins : (asked : List Ask) (n : ℕ) (p : Play) → Grows asked n p → TookAll p → IsPrefixOf asked (asks_of p)
+begins asked n Spent g t = absurd t
+begins asked n Lost g t = absurd t
+begins asked n (Out q s) g t = (g.added, sym g.asks)
+begins asked n (Ends c s) g t = (g.added, sym g.asks)
+begins asked n (Gives r s) g t = (g.added, sym g.asks)
+
+goes_on : (ok : Bool) (asked : List Ask) (n : ℕ) (p : Play) → Goes ok asked n p → TookAll p → IsPrefixOf asked (asks_of p)
+goes_on true asked n p g t = begins asked n p g t
+goes_on false asked n p g t = absurd (subst TookAll g t)
+
+prefix : (x : Answer) (rest : List Answer) (p p' : Play) → Extends (x ∷ rest) p p' → p ≢ Spent → TookAll p' → TookAll p × ((q : Ask) × (end_of p ≡ Some (EndOut q)) × IsPrefixOf (asks_of p ++ q ∷ []) (asks_of p'))
+prefix x rest Spent p' h n t = absurd (n refl)
+prefix x rest Lost p' h n t = absurd (subst TookAll h t)
+prefix x rest (Ends c s) p' h n t = absurd (not_empty s.left x rest (subst TookAll h t))
+prefix x rest (Gives r s) p' h n t = absurd (not_empty s.left x rest (subst TookAll h t))
+prefix x rest (Out q s) p' h n t = (h.0, (q, refl, goes_on (fits q x) (s.asked ++ q ∷ []) (length rest) p' h.1 t))
+
+pub prefix_fits : PrefixFits
+prefix_fits b p x rest fit =
+    let n = fuel (length (p ++ x ∷ rest)) in
+    let n_le : fuel (length p) ≤ n = fuel_le (length p) (length (p ++ x ∷ rest)) (omega (arith, length-append p (x ∷ rest))) in
+    let ext : Extends (x ∷ rest) (execution b p n) (whole b (p ++ x ∷ rest)) = play_extends (script b) (x ∷ rest) n _ (start p) in
+    let ext' : Extends (x ∷ rest) (whole b p) (whole b (p ++ x ∷ rest)) = subst (λ z. Extends (x ∷ rest) z (whole b (p ++ x ∷ rest))) (same_above b p n n_le) ext in
+    prefix x rest (whole b p) (whole b (p ++ x ∷ rest)) ext' (over_whole b p) fit
+
+-- what some fuel comes to is what the whole comes to
+pub comes_whole : (b : Bundle) (r : List Answer) (p : Play) → Comes b r p → p ≢ Spent → whole b r ≡ p
+comes_whole b r p c over = sym (same_over b r c.0 (λ e. over (sym c.1 ∙ e))) ∙ c.1
+
+-- an end that some fuel comes to is the end
+pub end_whole : (b : Bundle) (r : List Answer) (n : ℕ) (e : End) → end_of (execution b r n) ≡ Some e → end b r ≡ Some e
+end_whole b r n e h = sym (ap end_of (same_over b r n (λ s. some_none e (sym h ∙ ap end_of s)))) ∙ h
+  where
+    some_none : (x : End) → Some x ≡ None → ⊥
+    some_none x f = absurd cc
+
+-- before the first answer nothing was answered
+pub no_asks : (b : Bundle) → asks b [] ≡ []
+no_asks b = (grown [] (whole b []) (play_grows (script b) (fuel 0) (Runs b.workflow b.inputs) (start [])) (over_whole b [])).1

@@ -1,0 +1,81 @@
+-- The asks and the end of an execution.
+use Rattle.std.specs.Prelude.{ℕ, ◌+◌, ◌*◌, ◌≡◌, ◌≤◌, Bool, true, false, List, [], ◌++◌, Option, Some, None, length}
+use Rattle.arz_flow.specs.declared.bundle.Bundle.{Bundle}
+use Rattle.arz_flow.specs.declared.answers.Ask.{Ask}
+use Rattle.arz_flow.specs.declared.answers.Ask.TheVariants.{Send, Wait}
+use Rattle.arz_flow.specs.declared.answers.Answer.{Answer}
+use Rattle.arz_flow.specs.declared.answers.Answer.TheVariants.{Reply as Replied, Served}
+use Rattle.arz_flow.specs.declared.answers.End.{End}
+use Rattle.arz_flow.specs.declared.answers.End.TheVariants.{Completed as EndCompleted, Out as EndOut}
+use Rattle.arz_flow.specs.Play.{State, Play, Spent, Lost, Out, Ends, Gives, Completed, Broke, play}
+use Rattle.arz_flow.specs.Cases.{Runs, script}
+
+-- whether an answer fits its ask
+abbrev pub fits : Ask → Answer → Bool
+fits (Send q) (Replied y) = true
+fits (Send q) Served = false
+fits (Wait n) (Replied y) = false
+fits (Wait n) Served = true
+
+abbrev pub start : List Answer → State
+start r = record { left = r; asked = []; done = []; turns = 0; most = 0 }
+
+-- the execution over these answers, with this fuel: a run of the starting workflow with the setup's inputs
+abbrev pub execution : Bundle → List Answer → ℕ → Play
+execution b r n = play (script b) n (Runs b.workflow b.inputs) (start r)
+
+-- at most so many turns stand before each ask and before the end
+abbrev pub pace : ℕ
+pace = 264
+
+-- the fuel that suffices for this many answers
+abbrev pub fuel : ℕ → ℕ
+fuel answers = (answers + 1) * pace
+
+abbrev pub whole : Bundle → List Answer → Play
+whole b r = execution b r (fuel (length r))
+
+abbrev pub asks_of : Play → List Ask
+asks_of Spent = []
+asks_of Lost = []
+asks_of (Out q s) = s.asked
+asks_of (Ends c s) = s.asked
+asks_of (Gives o s) = s.asked
+
+abbrev pub end_of : Play → Option End
+end_of Spent = None
+end_of Lost = None
+end_of (Out q s) = Some (EndOut q)
+end_of (Ends c s) = None
+end_of (Gives (Completed outputs) s) = Some (EndCompleted outputs)
+end_of (Gives (Broke outputs) s) = None
+
+-- the play has come to an end, and took all answers
+abbrev pub TookAll : Play → Type 0
+TookAll Spent = ⊥
+TookAll Lost = ⊥
+TookAll (Out q s) = s.left ≡ []
+TookAll (Ends c s) = s.left ≡ []
+TookAll (Gives o s) = s.left ≡ []
+
+-- the asks that were answered, in order
+abbrev pub asks : Bundle → List Answer → List Ask
+asks b r = asks_of (whole b r)
+
+-- the end of the execution
+abbrev pub end : Bundle → List Answer → Option End
+end b r = end_of (whole b r)
+
+-- all of the answers were taken, and each fits its ask
+abbrev pub Fitting : Bundle → List Answer → Type 0
+Fitting b r = TookAll (whole b r)
+
+abbrev pub HasPace : ℕ → Play → Type 0
+HasPace m Spent = ⊥
+HasPace m Lost = Unit {0}
+HasPace m (Out q s) = (s.most ≤ m) × (s.turns ≤ m)
+HasPace m (Ends c s) = (s.most ≤ m) × (s.turns ≤ m)
+HasPace m (Gives o s) = (s.most ≤ m) × (s.turns ≤ m)
+
+abbrev pub IsPrefixOf : List Ask → List Ask → Type 0
+IsPrefixOf xs ys = (rest : List Ask) × (xs ++ rest ≡ ys)

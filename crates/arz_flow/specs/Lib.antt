@@ -1,0 +1,12 @@
+pub mod Documents
+pub mod Texts
+pub mod Paths
+pub mod Urls
+pub mod Requests
+pub mod Valid
+pub mod Play
+pub mod Cases
+pub mod Executions
+pub mod Laws
+pub mod Lines
+pub mod Stands

@@ -1,0 +1,53 @@
+-- Where an execution stands: what is left to do after some answers, whatever answers follow.
+use Rattle.std.specs.Prelude.{ℕ, ◌+◌, ◌≡◌, ◌≢◌, max, List, [], ◌∷◌, ◌++◌}
+use Rattle.arz_flow.specs.declared.answers.Ask.{Ask}
+use Rattle.arz_flow.specs.declared.answers.Answer.{Answer}
+use Rattle.arz_flow.specs.declared.bundle.Bundle.{Bundle}
+use Rattle.arz_flow.specs.Play.{Result, Completion, Seen, State, seen, Play, Spent, Script, then_play, follow, play}
+use Rattle.arz_flow.specs.Cases.{Case, script}
+use Rattle.arz_flow.specs.Executions.{execution}
+
+-- what the answers so far have made
+pub record Past : Type 0 where
+  pub asked : List Ask
+  pub done : List Completion
+  pub turns : ℕ
+  pub most : ℕ
+
+abbrev pub nothing_yet : Past
+nothing_yet = record { asked = []; done = []; turns = 0; most = 0 }
+
+abbrev pub state : List Answer → Past → State
+state rest p = record { left = rest; asked = p.asked; done = p.done; turns = p.turns; most = p.most }
+
+abbrev pub seen_of : Past → Seen
+seen_of p = record { asked = p.asked; done = p.done }
+
+abbrev pub turned : Past → Past
+turned p = record { asked = p.asked; done = p.done; turns = p.turns + 1; most = p.most }
+
+abbrev pub asked_more : Past → Ask → Past
+asked_more p q = record { asked = p.asked ++ q ∷ []; done = p.done; turns = 0; most = max p.most p.turns }
+
+abbrev pub done_more : Past → Completion → Past
+done_more p c = record { asked = p.asked; done = p.done ++ c ∷ []; turns = p.turns; most = p.most }
+
+-- what follows a run's result
+abbrev pub Follow : Type 0
+Follow = Result → Seen → Script Case
+
+-- what the open runs add to a play of the innermost, which comes first
+abbrev pub unwinds : Bundle → ℕ → List Follow → Play → Play
+unwinds b n [] p = p
+unwinds b n (k ∷ ks) p = unwinds b n ks (then_play p (λ o t. follow (play (script b) n) (k o (seen t)) t))
+
+abbrev pub from_here : Bundle → ℕ → Script Case → List Follow → State → Play
+from_here b n c ks s = unwinds b n ks (follow (play (script b) n) c s)
+
+-- the execution over these answers comes to this
+abbrev pub Comes : Bundle → List Answer → Play → Type 0
+Comes b r p = (n : ℕ) × (execution b r n ≡ p)
+
+-- after the answers r the execution goes on as this script does, under the open runs
+pub record Stands (b : Bundle) (c : Script Case) (ks : List Follow) (p : Past) (r : List Answer) : Type 0 where
+  pub goes : (rest : List Answer) (n : ℕ) → from_here b n c ks (state rest p) ≢ Spent → Comes b (r ++ rest) (from_here b n c ks (state rest p))
