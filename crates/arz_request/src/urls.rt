@@ -1,0 +1,78 @@
+// The server that a URL names.
+ghost use Rattle.std.specs.Prelude.{◌≡◌, option_map};
+ghost use Rattle.std.specs.List.{list_all};
+ghost use Rattle.arz_flow.specs.Urls.{server_of, server_with, is_host as is_host_text, is_host_byte as is_byte_of_host, port_of, port_in};
+ghost use Rattle.arz_request.specs.Authority.{server_seen};
+
+use arz_json::array_index;
+
+/// A host and a port, as a URL names them.
+#[derive(Clone, Copy)]
+pub struct Authority<'a> {
+    /// A registered name or an IPv4 address.
+    pub host: &'a str,
+    /// The TCP port.
+    pub port: u16,
+}
+
+/// The host and the port of a URL `http://HOST` or `http://HOST:PORT`; none of any other.
+pub fn authority_of(url: &str) -> Option<Authority<'_>>
+    ensures { option_map server_seen result ≡ server_of url.now }
+{
+    match url.strip_prefix("http://") {
+        None => None,
+        Some(authority) => match authority.split_once(':') {
+            None => with_port(authority, Some(80)),
+            Some((host, digits)) => with_port(host, read_port(digits)),
+        },
+    }
+}
+
+fn with_port(host: &str, port: Option<u16>) -> Option<Authority<'_>>
+    ensures { option_map server_seen result ≡ server_with host.now port }
+{
+    if !is_host(host) {
+        return None;
+    }
+    match port {
+        Some(port) => Some(Authority { host, port }),
+        None => None,
+    }
+}
+
+fn read_port(digits: &str) -> Option<u16>
+    ensures { result ≡ port_of digits.now }
+{
+    match array_index(digits) {
+        Some(n) => port_within(n),
+        None => None,
+    }
+}
+
+fn port_within(n: usize) -> Option<u16>
+    ensures { result ≡ port_in n }
+{
+    if 1 <= n && n <= 65535 {
+        Some(n as u16)
+    } else {
+        None
+    }
+}
+
+fn is_host(text: &str) -> bool
+    ensures { result ≡ is_host_text text.now }
+{
+    1 <= text.len() && text.len() <= 253 && all_host_bytes(text.as_bytes())
+}
+
+fn all_host_bytes(bytes: &[u8]) -> bool
+    ensures { result ≡ list_all is_byte_of_host bytes.now }
+{
+    bytes.iter().all(|b| is_host_byte(*b))
+}
+
+fn is_host_byte(byte: u8) -> bool
+    ensures { result ≡ is_byte_of_host byte }
+{
+    byte.is_ascii_alphanumeric() || byte == b'.' || byte == b'-'
+}
