@@ -1,0 +1,13 @@
+pub mod At
+pub mod Ends
+pub mod FileTree
+pub mod FirstForm
+pub mod FirstFormNames
+pub mod FirstFormTexts
+pub mod FirstFormWords
+pub mod Loading
+pub mod Mock
+pub mod Plain
+pub mod Report
+pub mod Rows
+pub mod Words

@@ -1,0 +1,79 @@
+-- What is printed and answered for what a command comes to.
+use Rattle.std.specs.Prelude.{ℕ, zero, suc, ◌+◌, List, [], ◌∷◌, ◌++◌, length, codes}
+use Rattle.std.specs.List.{flat_map}
+use Rattle.std.specs.Fmt.{decimal}
+use Rattle.std.specs.declared.option.Option.{Option}
+use Rattle.std.specs.declared.option.Option.TheVariants.{None, Some}
+use Rattle.serde_json.specs.Written.{compact_text}
+use Rattle.arz_json.specs.Writing.{data_of}
+use Rattle.arz_json.specs.declared.Json.TheVariants.{Object}
+use Rattle.arz_json.specs.declared.Refusal.{Refusal}
+use Rattle.arz_flow.specs.declared.answers.End.{End}
+use Rattle.arz_flow.specs.declared.answers.End.TheVariants.{Completed, Out}
+use Rattle.arz_flow.specs.Lines.{line_of_end}
+use Rattle.arz_top.specs.declared.session.How.{How}
+use Rattle.arz_top.specs.declared.session.How.TheVariants.{Held, Sent, Served, Mock}
+use Rattle.arz_top.specs.declared.session.Line.{Line}
+use Rattle.arz_top.specs.declared.session.Session.{Session}
+use Rattle.arz_top.specs.declared.ending.Ending.{Ending}
+use Rattle.arz_top.specs.declared.ending.Ending.TheVariants.{Words, File, Refused, Played}
+
+-- each line ends with LF
+abbrev pub line : List ℕ → List ℕ
+line text = text ++ 10 ∷ []
+
+abbrev pub how_text : How → List ℕ
+how_text Held = codes "held"
+how_text Sent = codes "sent"
+how_text Served = codes "served"
+how_text Mock = codes "mock"
+
+abbrev pub status_text : Option ℕ → List ℕ
+status_text None = []
+status_text (Some status) = codes " " ++ decimal status
+
+-- `N METHOD URL STATUS HOW`, or `N wait SECONDS HOW`
+abbrev pub ask_line : Line → List ℕ
+ask_line l = line (decimal l.n ++ codes " " ++ l.ask ++ status_text l.status ++ codes " " ++ how_text l.how)
+
+abbrev pub ask_lines : List Line → List ℕ
+ask_lines lines = flat_map ask_line lines
+
+-- the outputs as one line of compact JSON
+abbrev pub outputs_line : End → List ℕ
+outputs_line (Completed outputs) = line (compact_text (data_of (Object outputs)))
+outputs_line (Out ask) = []
+
+-- a line for each ask, the end's line, and the outputs
+abbrev pub session_report : Session → List ℕ
+session_report s = ask_lines s.lines ++ line (line_of_end s.end (length s.lines + 1)) ++ outputs_line s.end
+
+-- the names of the rules
+abbrev pub rule_name : ℕ → List ℕ
+rule_name zero = codes "NotBuilt"
+rule_name (suc rule) = []
+
+-- `refused RULE NAME LABEL#POINTER`
+abbrev pub refusal_line : Refusal → List ℕ
+refusal_line r = line (codes "refused " ++ decimal r.rule ++ codes " " ++ rule_name r.rule ++ codes " " ++ r.label ++ codes "#" ++ r.pointer)
+
+abbrev pub file_report : List ℕ → List ℕ
+file_report path = line (codes "file " ++ path)
+
+-- what is printed
+abbrev pub report : Ending → List ℕ
+report Words = line (codes "words")
+report (File path) = file_report path
+report (Refused refusal) = refusal_line refusal
+report (Played session) = session_report session
+
+abbrev pub end_status : End → ℕ
+end_status (Completed outputs) = 0
+end_status (Out ask) = 14
+
+-- what is answered
+abbrev pub status : Ending → ℕ
+status Words = 2
+status (File path) = 13
+status (Refused refusal) = 3
+status (Played session) = end_status session.end

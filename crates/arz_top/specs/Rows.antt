@@ -1,0 +1,34 @@
+-- The statuses, one by one.
+use Rattle.std.specs.Prelude.{◌≡◌, ◌≢◌, ◌⊎◌, ◌++◌, ℕ, List, codes}
+use Rattle.arz_json.specs.declared.Member.{Member}
+use Rattle.arz_json.specs.declared.Refusal.{Refusal}
+use Rattle.arz_world.specs.Outside.{Gains, Rose, FilesView, SinkView}
+use Rattle.arz_flow.specs.declared.answers.Ask.{Ask}
+use Rattle.arz_flow.specs.declared.answers.End.TheVariants.{Completed, Out}
+use Rattle.arz_top.specs.declared.words.Command.{Command}
+use Rattle.arz_top.specs.declared.words.Command.TheVariants.{Unknown}
+use Rattle.arz_top.specs.declared.session.Session.{Session}
+use Rattle.arz_top.specs.declared.ending.Ending.{Ending}
+use Rattle.arz_top.specs.declared.ending.Ending.TheVariants.{Refused, Played}
+use Rattle.arz_top.specs.Loading.{Comes}
+use Rattle.arz_top.specs.Report.{line, report, status, refusal_line}
+
+-- what the files and the sink show at the beginning of a call and at its end
+pub record Rows (files files_now : FilesView) (command : Command) (sink sink_now : SinkView) (answer : ℕ) : Type 0 where
+  -- 0 only where the workflow was completed
+  pub completed : answer ≡ 0 → (s : Session) × (outputs : List Member) × Comes files files_now command (Played s) × (s.end ≡ Completed outputs)
+  -- 2 exactly where the words are no command
+  pub words : answer ≡ 2 → command ≡ Unknown
+  pub no_command : command ≡ Unknown → (answer ≡ 2) ⊎ (answer ≡ 10) ⊎ (answer ≡ 11)
+  -- 3 only where a document is refused, and this refusal is printed
+  pub refused : answer ≡ 3 → (refusal : Refusal) × Comes files files_now command (Refused refusal) × Gains sink.held sink_now.held (λ added. added ≡ refusal_line refusal)
+  -- 10 only where the sink failed
+  pub sink_fault : answer ≡ 10 → Rose sink.faults sink_now.faults
+  -- 13 only where a read of the printed path failed
+  pub file : answer ≡ 13 → (path : List ℕ) × Rose (files.faults path) (files_now.faults path) × Gains sink.held sink_now.held (λ added. added ≡ line (codes "file " ++ path))
+  -- 14 only where the replies ran out
+  pub out : answer ≡ 14 → (s : Session) × (ask : Ask) × Comes files files_now command (Played s) × (s.end ≡ Out ask)
+  -- at every other status than 10 and 11 the report stands whole
+  pub whole : answer ≢ 10 → answer ≢ 11 → (ending : Ending) × Comes files files_now command ending × (answer ≡ status ending) × Gains sink.held sink_now.held (λ added. added ≡ report ending)
+  -- where the sink didn't fail, only want of memory keeps the report away
+  pub succeeds : (Rose sink.faults sink_now.faults → ⊥) → answer ≢ 11 → (ending : Ending) × Comes files files_now command ending × (answer ≡ status ending)

@@ -1,0 +1,16 @@
+// What a command comes to.
+use crate::session::Session;
+use arz_json::{Refusal, Text};
+
+/// What a command comes to.
+#[derive(Debug, Drop)]
+pub enum Ending {
+    /// The words are no command.
+    Words,
+    /// A read of the file at this path failed.
+    File(Text),
+    /// This is the first rule that a document fails.
+    Refused(Refusal),
+    /// The workflow was run over the given replies.
+    Played(Session),
+}

@@ -1,0 +1,19 @@
+//! The first form of the files of a run.
+
+mod called;
+mod description;
+mod names;
+mod paths;
+mod replies;
+mod setup;
+mod source;
+#[cfg(test)]
+mod tests;
+mod texts;
+mod words;
+
+pub(crate) use description::is_description;
+pub(crate) use replies::are_replies;
+pub(crate) use setup::is_setup;
+pub(crate) use source::is_source;
+pub(crate) use texts::has_short_texts;

@@ -1,0 +1,71 @@
+// The top call.
+ghost use Rattle.std.specs.Prelude.{◌≡◌, map, string_bytes, codes, IfOk};
+ghost use Rattle.arz_world.specs.Outside.{Gains, IsPrefix};
+ghost use Rattle.arz_top.specs.Loading.{Comes};
+ghost use Rattle.arz_top.specs.Report.{line};
+ghost use Rattle.arz_top.specs.Ends.{Ends};
+ghost use Rattle.arz_top.specs.Rows.{Rows};
+ghost use Rattle.arz_top.specs.Words.{taken};
+
+use crate::ending::Ending;
+use crate::load::mock_files;
+use crate::report::{report, status};
+use crate::words::{Command, read_words};
+use arz_world::{Files, Sink, SinkFault};
+use std::alloc::{AllocError, Global};
+
+/// Does what the words say, puts the report into the sink, and answers the status that the program
+/// ends with. The words come without the program's name. The clause `ends` says which report and
+/// status belong to the words and files; the clause `rows` tells it again status by status.
+pub fn run_words<F: Files, S: Sink>(
+    alloc: Global,
+    words: &[String],
+    files: &mut F,
+    out: &mut S,
+) -> u8
+    ensures ends { Ends (Comes (F.files files.old) (F.files files.new) (taken (map string_bytes words.now)))
+        (S.sink out.old) (S.sink out.new) result }
+    ensures rows { Rows (F.files files.old) (F.files files.new) (taken (map string_bytes words.now))
+        (S.sink out.old) (S.sink out.new) result }
+{
+    print(alloc, words, files, out)
+}
+
+fn print<F: Files, S: Sink>(alloc: Global, words: &[String], files: &mut F, out: &mut S) -> u8
+    ensures { Ends (Comes (F.files files.old) (F.files files.new) (taken (map string_bytes words.now)))
+        (S.sink out.old) (S.sink out.new) result }
+{
+    let Ok(ending) = ending(alloc, words, files) else {
+        return memory(out);
+    };
+    let status = status(&ending);
+    let Ok(text) = report(alloc, ending) else {
+        return memory(out);
+    };
+    match out.put(text.as_slice()) {
+        Ok(()) => status,
+        Err(SinkFault::Failed) => 10,
+        Err(SinkFault::Memory) => memory(out),
+    }
+}
+
+// What the words come to.
+fn ending<F: Files>(alloc: Global, words: &[String], files: &mut F) -> Result<Ending, AllocError>
+    ensures { IfOk result (Comes (F.files files.old) (F.files files.new) (taken (map string_bytes words.now))) }
+{
+    match read_words(words)? {
+        Command::Mock(setup, replies) => {
+            mock_files(alloc, files, setup.as_str(), replies.as_str())
+        }
+        Command::Unknown => Ok(Ending::Words),
+    }
+}
+
+// Memory ran out: the line that says so is tried once.
+fn memory<S: Sink>(out: &mut S) -> u8
+    ensures status { result ≡ 11 }
+    ensures put { Gains (S.sink out.old).held (S.sink out.new).held (λ added. IsPrefix added (line (codes "memory"))) }
+{
+    let _ = out.put(b"memory\n");
+    11
+}
