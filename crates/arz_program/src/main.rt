@@ -1,0 +1,48 @@
+//! Reads the words, runs them over the files of the folder and standard output, and ends with the
+//! status.
+#![tactic(auto)]
+
+mod folder_files;
+mod stdout_sink;
+#[cfg(test)]
+mod tests;
+
+use arz_top::run_words;
+use arz_world::Sink;
+use folder_files::FolderFiles;
+use std::alloc::AllocError;
+use std::env;
+use std::io::ErrorKind;
+use std::process::ExitCode;
+use stdout_sink::StdoutSink;
+
+// The status where memory ran out.
+const OUT_OF_MEMORY: u8 = 11;
+
+fn main(rt: HostRuntime) -> ExitCode {
+    let mut files = FolderFiles::new(&rt);
+    let mut out = StdoutSink::new(&rt);
+    let Ok(words) = words(&rt) else {
+        let _ = out.put(b"memory\n");
+        return ExitCode::from(OUT_OF_MEMORY);
+    };
+    ExitCode::from(run_words(rt.alloc(), &words, &mut files, &mut out))
+}
+
+// The words behind the program's name, or none where one of them is no UTF-8.
+fn words(rt: &HostRuntime) -> Result<Vec<String>, AllocError> {
+    let mut words = Vec::new(rt.alloc());
+    match env::args(rt) {
+        Ok(args) => {
+            for arg in args.skip(1) {
+                words.push(arg)?;
+            }
+        }
+        Err(fault) => {
+            if fault.kind() == ErrorKind::OutOfMemory {
+                return Err(AllocError);
+            }
+        }
+    }
+    Ok(words)
+}
