@@ -1,0 +1,9 @@
+pub mod Options
+pub mod Keys
+pub mod Runs
+pub mod Numbers
+pub mod Sound
+pub mod Complete
+pub mod Endings
+pub mod Steps
+pub mod Skips
