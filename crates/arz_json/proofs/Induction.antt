@@ -1,10 +1,10 @@
 -- Induction over trees: what holds of a level where it holds of each value inside, holds of each tree.
-use Rattle.std.proofs.Common.{◌≡◌, ℕ, ℤ, List, [], ◌∷◌, map, Bool, sym, subst}
+use Rattle.std.proofs.Common.{ℕ, ℤ, List, [], ◌∷◌, map, Bool, sym, subst}
 use Rattle.arz_json.specs.declared.tree.Json.{Json}
-use Rattle.arz_json.specs.declared.tree.Json.TheOpen.{Json-F, Member-F}
-use Rattle.arz_json.specs.declared.tree.Json.TheFolds.{ind-Json, map-Json, map-Member}
+use Rattle.arz_json.specs.declared.tree.Json.TheOpen.{Json-F}
+use Rattle.arz_json.specs.declared.tree.Json.TheFolds.{ind-Json, map-Json}
 use Rattle.arz_json.specs.declared.tree.Json.TheVariants.{Null, Flag, Int, Text, List as ListOf, Object, Opaque, rolls-Null, rolls-Flag, rolls-Int, rolls-Text, rolls-List, rolls-Object, rolls-Opaque}
-use Rattle.arz_json.specs.declared.tree.Json.TheViews.{roll-Json, roll-Member}
+use Rattle.arz_json.specs.declared.tree.Json.TheViews.{roll-Json}
 use Rattle.arz_json.specs.declared.tree.Member.{Member}
 
 module _ (P : Json → Type 0) where

@@ -1,4 +1,5 @@
 pub mod Conversion
+pub mod Tokens
 pub mod Induction
 pub mod Layers
 pub mod Putting

@@ -1,18 +1,13 @@
 -- Values that are put at places of a tree.
-use Rattle.std.proofs.Common.{◌≡◌, ℕ, zero, suc, ◌+◌, ◌<◌, ◌≤◌, ◌==◌, List, [], ◌∷◌, ◌++◌, map, length, set, Bool, true, false, cond, Option, Some, None, option_map, option_and_then, refl, sym, ap, ap₂, ◌∙◌, subst, arith, add-zero}
-use Rattle.std.specs.Prelude.{slice_get, slice_set, IfSome}
+use Rattle.std.proofs.Common.{◌≡◌, ℕ, zero, suc, ◌<◌, List, [], ◌∷◌, map, length, set, Bool, true, false, cond, Option, Some, None, option_map, option_and_then, refl, sym, ap, ◌∙◌, arith}
+use Rattle.std.specs.Prelude.{slice_get, IfSome}
 use Rattle.std.specs.Str.{bytes_eq}
 use Rattle.json.proofs.Found.{Some_inj}
-use Rattle.std.proofs.lemmas.Option.{option_and_then_some}
-use Rattle.serde_json.proofs.Paths.{Lacks}
-use Rattle.serde_json.specs.Find.{index_of}
 use Rattle.arz_json.specs.Tree.{depth, depth_step, largest}
-use Rattle.arz_json.specs.Pointer.{decoded, member_named, step_in, step, walk, named}
-use Rattle.arz_json.specs.Put.{children_in, children, place_of, child_in, child_of, set_value, set_child_in, set_child, traded_at, traded_child, traded_from, traded}
+use Rattle.arz_json.specs.Pointer.{member_named}
+use Rattle.arz_json.specs.Put.{place_of, set_value}
 use Rattle.arz_json.specs.declared.tree.Json.{Json}
-use Rattle.arz_json.specs.declared.tree.Json.TheOpen.{Json-F}
-use Rattle.arz_json.specs.declared.tree.Json.TheVariants.{List as ListOf, Object}
-use Rattle.arz_json.specs.declared.tree.Json.TheViews.{out-Json, outs-List, outs-Object}
+use Rattle.arz_json.specs.declared.tree.Json.TheVariants.{Object}
 use Rattle.arz_json.specs.declared.tree.Member.{Member}
 use Rattle.arz_json.proofs.Layers.{folded-Object, values_of-map}
 

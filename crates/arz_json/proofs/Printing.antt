@@ -1,5 +1,5 @@
 -- The data of a tree has no float.
-use Rattle.std.proofs.Common.{◌≡◌, ℤ, pos, negsuc, List, [], ◌∷◌, map, Bool, false, ◌||◌, refl, sym, ap, ap₂, subst, ◌∙◌, rules}
+use Rattle.std.proofs.Common.{◌≡◌, ℤ, pos, negsuc, List, [], ◌∷◌, map, false, ◌||◌, refl, sym, ap, ap₂, subst, ◌∙◌, rules}
 use Rattle.serde_json.specs.Data.{number}
 use Rattle.arz_json.specs.declared.tree.Json.TheVariants.{Int}
 use Rattle.serde_json.specs.Find.{is_float, of_integer}

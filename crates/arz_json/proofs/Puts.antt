@@ -1,17 +1,17 @@
 -- A well-formed value that is put into a well-formed tree leaves its numbers and names in form.
-use Rattle.std.proofs.Common.{◌≡◌, ℕ, zero, suc, ◌==◌, List, [], ◌∷◌, ◌++◌, map, set, Bool, true, false, ◌&&◌, cond, Option, Some, None, option_map, option_and_then, refl, sym, ap, ap₂, ◌∙◌, subst}
+use Rattle.std.proofs.Common.{◌≡◌, ℕ, zero, suc, ◌==◌, List, [], ◌∷◌, ◌++◌, map, set, Bool, true, false, ◌&&◌, cond, Option, Some, None, option_map, refl, sym, ap, ap₂, ◌∙◌}
 use Rattle.std.specs.Prelude.{slice_get}
 use Rattle.json.proofs.Found.{Some_inj}
 use Rattle.std.proofs.lemmas.Option.{option_and_then_some}
-use Rattle.arz_json.specs.Tree.{has_form, form_step, all_true, are_ordered, is_below_first, values_of}
+use Rattle.arz_json.specs.Tree.{has_form, form_step, all_true, are_ordered, is_below_first}
 use Rattle.arz_json.specs.Put.{children_in, children, child_of, set_value, set_child_in, set_child, traded_at, traded_child, traded_from, traded}
 use Rattle.arz_json.specs.declared.tree.Json.{Json}
 use Rattle.arz_json.specs.declared.tree.Json.TheOpen.{Json-F}
-use Rattle.arz_json.specs.declared.tree.Json.TheVariants.{List as ListOf, Object}
+use Rattle.arz_json.specs.declared.tree.Json.TheVariants.{Object}
 use Rattle.arz_json.specs.declared.tree.Json.TheViews.{out-Json}
 use Rattle.arz_json.specs.declared.tree.Member.{Member}
 use Rattle.arz_json.proofs.Layers.{folded-List, folded-Object, values_of-map, members_form}
-use Rattle.arz_json.proofs.Trades.{Trade, is_list, is_object, at_child, placed}
+use Rattle.arz_json.proofs.Trades.{Trade, is_list, is_object, placed}
 
 both : (a b : Bool) → a ≡ true → b ≡ true → (a && b) ≡ true
 both true b p q = q

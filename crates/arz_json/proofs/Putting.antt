@@ -1,8 +1,8 @@
 -- Members that are put one by one in ascending order of their names stand in that order.
-use Rattle.std.proofs.Common.{◌≡◌, ℕ, List, [], ◌∷◌, ◌++◌, map, Bool, true, false, ◌&&◌, ◌||◌, Less, Equal, Greater, Ordering, nat_cmp, refl, sym, ap, ap₂, ◌∙◌, append_assoc, append-nil}
+use Rattle.std.proofs.Common.{◌≡◌, ℕ, List, [], ◌∷◌, ◌++◌, Bool, true, false, ◌&&◌, Less, Equal, Greater, Ordering, nat_cmp, refl, sym, ap, ◌∙◌, append_assoc, append-nil}
 use Rattle.std.proofs.lemmas.Cmp.{nat_list_cmp_total}
 use Rattle.std.specs.Cmp.Lexicographic.{slice_cmp}
-use Rattle.std.specs.Ordering.{is_lt, ordering_reverse, match_ordering}
+use Rattle.std.specs.Ordering.{is_lt, ordering_reverse}
 use Rattle.serde_json.specs.Data as serde
 use Rattle.serde_json.specs.Data.{put}
 use Rattle.arz_json.specs.Tree.{is_below_first, are_ordered}

@@ -1,12 +1,11 @@
 -- A value that is put at a place: what stands there then, and how it is taken back.
-use Rattle.std.proofs.Common.{◌≡◌, ℕ, zero, suc, ◌+◌, ◌<◌, ◌≤◌, ◌==◌, List, [], ◌∷◌, ◌++◌, map, length, set, Bool, true, false, ◌&&◌, cond, Option, Some, None, option_map, option_and_then, refl, sym, ap, ap₂, ◌∙◌, subst, arith, append_assoc, append-nil, ne_eqb}
-use Rattle.std.specs.Prelude.{slice_get, slice_set}
+use Rattle.std.proofs.Common.{◌≡◌, ℕ, zero, suc, ◌<◌, ◌==◌, List, [], ◌∷◌, ◌++◌, map, length, set, Bool, true, false, cond, Option, Some, None, option_map, option_and_then, refl, sym, ap, ap₂, ◌∙◌, arith, append_assoc, append-nil, ne_eqb}
+use Rattle.std.specs.Prelude.{slice_get}
 use Rattle.std.specs.Str.{bytes_eq}
 use Rattle.std.proofs.lemmas.List.{set-set}
 use Rattle.json.proofs.Found.{Some_inj}
 use Rattle.std.proofs.lemmas.Option.{option_and_then_some}
 use Rattle.serde_json.proofs.Paths.{Lacks}
-use Rattle.serde_json.specs.Find.{index_of}
 use Rattle.arz_json.specs.Pointer.{decoded, member_named, step_in, step, walk, named}
 use Rattle.arz_json.specs.Put.{children_in, children, place_of, child_in, child_of, set_value, set_child_in, set_child, traded_at, traded_child, traded_from, traded, Trades}
 use Rattle.arz_json.specs.declared.tree.Json.{Json}

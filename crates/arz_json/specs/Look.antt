@@ -1,6 +1,5 @@
 -- What a tree is, and what stands in it by name (RFC 8259, sections 3 to 5).
-use Rattle.std.specs.Prelude.{ℕ, ℤ, List, Bool, true, false, Option, Some, None, option_and_then}
-use Rattle.std.specs.Option.{is_some}
+use Rattle.std.specs.Prelude.{ℕ, ℤ, List, Option, Some, None, option_and_then}
 use Rattle.arz_json.specs.Pointer.{member_named}
 use Rattle.arz_json.specs.declared.tree.Json.{Json, out-Json}
 use Rattle.arz_json.specs.declared.tree.Json.TheOpen.{Json-F}

@@ -144,9 +144,9 @@ fn swap_value(members: Members, at: usize, value: &mut Json) -> Members
     Many::from_std(items)
 }
 
-// Whether the tree nests deeper than the limit.
+/// Whether the tree nests deeper than the limit. It takes no memory.
 #[cycle(deeper)]
-fn is_deeper(value: &Json, limit: usize) -> bool
+pub fn is_deeper(value: &Json, limit: usize) -> bool
     ensures { IsTrue result ↔ (limit < depth value.now) }
 {
     match value {

@@ -1,14 +1,22 @@
-ghost use Rattle.std.specs.Prelude.{◌≡◌, ◌<◌, ◌≤◌, ◌↔◌, ◌∷◌, ◌==◌, length, drop, None, Some, option_map, option_and_then, MatchOption, IsTrue, slice_index};
+ghost use Rattle.std.specs.Prelude.{◌≡◌, ℕ, IfSome, ◌<◌, ◌≤◌, ◌↔◌, ◌∷◌, ◌==◌, length, drop, None, Some, option_map, option_and_then, MatchOption, IsTrue, slice_index};
 ghost use Rattle.std.specs.Option.{option_copied};
 ghost use Rattle.serde_json.specs.Find.{index_of};
+ghost use Rattle.arz_json.specs.Tree.{IsWithin};
 ghost use Rattle.arz_json.specs.Pointer.{decoded, member_named, step as one_step, named};
 
 use crate::tree::{Json, Members};
 use fast_float::Numeral;
 
 /// What a JSON Pointer names in a tree (RFC 6901, section 4), and `None` where the text is no pointer
-/// or names nothing. It takes no memory.
+/// or names nothing. It takes no memory. What is named nests no deeper than the tree.
 pub fn at<'a>(root: &'a Json, pointer: &str) -> Option<&'a Json>
+    ensures value { option_copied result ≡ named pointer.now root.now }
+    ensures within { (n : ℕ) → IsWithin n root.now → IfSome (option_copied result) (IsWithin n) }
+{
+    named_at(root, pointer)
+}
+
+fn named_at<'a>(root: &'a Json, pointer: &str) -> Option<&'a Json>
     ensures { option_copied result ≡ named pointer.now root.now }
 {
     if pointer.is_empty() {

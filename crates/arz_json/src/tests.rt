@@ -1,6 +1,6 @@
 use crate::{
-    Bytes, CompactFault, Json, JsonFault, Many, PutFault, Text, array_index, at, compact, copy,
-    put, read, same,
+    Bytes, CompactFault, Json, JsonFault, Many, PutFault, Text, array_index, at, compact,
+    compact_string, copy, is_deeper, put, read, same,
 };
 use std::test::Fail;
 
@@ -30,6 +30,12 @@ fn numbers_are_ints_by_their_spelling(rt: HostRuntime) -> Result<(), Fail> {
         assert!(rt; matches!(&items[i], Json::Opaque));
     }
     assert!(rt; matches!(compact(alloc, &tree), Err(CompactFault::FractionUsed)));
+    assert!(rt;
+        matches!(
+            compact_string(alloc, &tree),
+            Err(CompactFault::FractionUsed)
+        )
+    );
     Ok(())
 }
 
@@ -45,6 +51,9 @@ fn reads_writes_and_points(rt: HostRuntime) -> Result<(), Fail> {
         bytes.as_slice(),
         b"{\"a/b\":{\"~\":\"x\"},\"b\":[2,\"\\n\"]}".as_slice()
     );
+    let text = compact_string(alloc, &tree)?;
+    assert_eq!(rt; text.as_bytes(), bytes.as_slice());
+    assert!(rt; is_deeper(&tree, 1) && !is_deeper(&tree, 2));
     assert!(rt; at(&tree, "/a~1b/~0").is_some());
     assert!(rt; at(&tree, "/b/0").is_some());
     assert!(rt; at(&tree, "/b/00").is_none());
@@ -117,6 +126,10 @@ fn small_types_give_back_what_they_took(rt: HostRuntime) -> Result<(), Fail> {
     many.swap_item(0, &mut item);
     assert_eq!(rt; (item, many.get(0).copied(), many.len()), (3, Some(4), 1));
     assert_eq!(rt; Many::from_std(many.into_std()).as_slice(), [4].as_slice());
+    let mut many: Many<u8> = Many::new(alloc);
+    many.push(3)?;
+    assert_eq!(rt; many.pop(), Some(3));
+    assert_eq!(rt; many.pop(), None);
     Ok(())
 }
 

@@ -1,4 +1,4 @@
-ghost use Rattle.std.specs.Prelude.{◌≡◌, ◌↔◌, map, true, false, IfOk};
+ghost use Rattle.std.specs.Prelude.{◌≡◌, ◌↔◌, map, true, false, IfOk, string_bytes};
 ghost use Rattle.serde_json.specs.Find.{of_integer};
 ghost use Rattle.serde_json.specs.View.{view, number_view, members_view};
 ghost use Rattle.serde_json.specs.Written.{compact_text};
@@ -38,6 +38,29 @@ pub fn compact(alloc: Global, value: &Json) -> Result<Bytes, CompactFault>
         Ok(bytes) => Ok(Bytes::from_std(bytes)),
         Err(_) => Err(CompactFault::Memory),
     }
+}
+
+/// The same text as a `String`.
+pub fn compact_string(alloc: Global, value: &Json) -> Result<String, CompactFault>
+    requires { IsWellFormed value.now }
+    ensures text { IfOk result (λ s. string_bytes s ≡ compact_text (data_of value.now)) }
+    ensures fraction_used { (result ≡ Err CompactFault.FractionUsed)
+        ↔ (has_opaque value.now ≡ true) }
+{
+    if holds_opaque(value) {
+        return Err(CompactFault::FractionUsed);
+    }
+    match printed_string(alloc, value) {
+        Ok(text) => Ok(text),
+        Err(_) => Err(CompactFault::Memory),
+    }
+}
+
+fn printed_string(alloc: Global, value: &Json) -> Result<String, AllocError>
+    requires { has_form value.now ≡ true }
+    ensures { IfOk result (λ s. string_bytes s ≡ compact_text (data_of value.now)) }
+{
+    to_value(alloc, value)?.to_string(alloc)
 }
 
 fn printed(alloc: Global, value: &Json) -> Result<Vec<u8>, AllocError>

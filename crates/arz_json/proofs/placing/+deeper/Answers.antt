@@ -1,4 +1,4 @@
-use Rattle.std.proofs.Common.{◌≡◌, ◌<◌, suc, map, ap, ◌∙◌, arith}
+use Rattle.std.proofs.Common.{◌≡◌, suc, map, ap, ◌∙◌, arith}
 use Rattle.arz_json.specs.Tree.{depth, largest}
 use Rattle.arz_json.proofs.Places.{depth_object}
 use Rattle.arz_json.proofs.placing.+deeper.Goals as goal

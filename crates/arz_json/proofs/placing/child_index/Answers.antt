@@ -1,9 +1,8 @@
-use Rattle.std.proofs.Common.{◌≡◌, ◌<◌, Some, length, map, sym, ap, ◌∙◌, subst, arith, rules}
-use Rattle.std.specs.Prelude.{slice_get, option_and_then, IfSome}
-use Rattle.std.proofs.lemmas.Option.{slice_get_past, option_and_then_some}
+use Rattle.std.proofs.Common.{sym, ap, ◌∙◌, arith}
+use Rattle.std.specs.Prelude.{slice_get, option_and_then}
+use Rattle.std.proofs.lemmas.Option.{slice_get_past}
 use Rattle.arz_json.specs.Pointer.{decoded}
-use Rattle.arz_json.specs.Put.{children, children_in, child_of, child_in, place_of}
-use Rattle.arz_json.specs.declared.tree.Json.{Json, the_lemmas}
+use Rattle.arz_json.specs.Put.{children_in, child_of, child_in}
 use Rattle.arz_json.specs.declared.tree.Json.TheViews.{out-Json, outs-List, outs-Object}
 use Rattle.arz_json.proofs.Places.{places_within}
 use Rattle.arz_json.proofs.placing.child_index.Goals as goal

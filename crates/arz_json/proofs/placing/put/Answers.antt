@@ -1,4 +1,4 @@
-use Rattle.std.proofs.Common.{◌≡◌, ◌<◌, ◌≤◌, Some, Err, sym, ap, ◌∙◌, subst, arith, rules}
+use Rattle.std.proofs.Common.{◌<◌, Err, sym, ap, subst, arith}
 use Rattle.std.specs.Prelude.{IsSomeAnd, option_map}
 use Rattle.arz_json.specs.declared.placing.PutFault.TheVariants.{NoPlace, TooNested}
 use Rattle.arz_json.specs.Tree.{depth, IsWellFormed}

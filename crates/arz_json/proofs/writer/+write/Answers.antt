@@ -1,12 +1,12 @@
-use Rattle.std.proofs.Common.{◌≡◌, ◌+◌, [], ◌∷◌, drop, map, string_bytes, string_cmp, sym, ap, ap₂, ◌∙◌, rules, arith}
+use Rattle.std.proofs.Common.{◌≡◌, ◌+◌, [], ◌∷◌, drop, map, sym, ap, ap₂, ◌∙◌, rules, arith}
 use Rattle.std.proofs.lemmas.Grind.{common_steps}
 use Rattle.std.proofs.lemmas.List.{drop_all}
 use Rattle.serde_json.specs.Data as serde
 use Rattle.serde_json.specs.Data.{put}
-use Rattle.serde_json.specs.View.{view, members_view}
+use Rattle.serde_json.specs.View.{members_view}
 use Rattle.serde_json.proofs.Views.{view-Object, members_view-insert_entry}
 use Rattle.arz_json.specs.Tree.{has_form}
-use Rattle.arz_json.specs.Writing.{data_of, named_values}
+use Rattle.arz_json.specs.Writing.{data_of}
 use Rattle.arz_json.specs.declared.tree.Json.{the_lemmas}
 use Rattle.arz_json.specs.declared.tree.Member.{Member}
 use Rattle.arz_json.proofs.Layers.{data_of_object, members_form, members_order}
