@@ -7,3 +7,9 @@ pub mod Complete
 pub mod Endings
 pub mod Steps
 pub mod Skips
+pub mod Found
+pub mod Plain
+pub mod Cutting
+pub mod Joins
+pub mod Levels
+pub mod Embedding

@@ -1,5 +1,5 @@
 -- Names at the front of a text.
-use Rattle.std.proofs.Common.{◌≡◌, inl, inr, ℕ, zero, suc, ◌+◌, ◌<◌, ◌≤◌, Bool, true, false, nat_lt, List, [], ◌∷◌, ◌++◌, length, get_or, take, drop, Some, IfSome, IsUtf8, refl, ap, ◌∙◌, arith, add-one}
+use Rattle.std.proofs.Common.{◌≡◌, inl, inr, ℕ, zero, suc, ◌<◌, ◌≤◌, Bool, true, false, nat_lt, List, [], ◌∷◌, ◌++◌, length, get_or, take, drop, Some, IfSome, IsUtf8, refl, ap, ◌∙◌, arith, add-one}
 use Rattle.std.specs.List.{list_all}
 use Rattle.std.specs.Str.{IsCharBoundary}
 use Rattle.std.proofs.lemmas.Bool.{cases_Bool, and_parts}
@@ -42,7 +42,7 @@ begins-drop [] (suc i) h = refl
 begins-drop (b ∷ text) zero h = h (omega arith)
 begins-drop (b ∷ text) (suc i) h = begins-drop text i (λ lt. h (omega arith))
 
-take-drop : (text : List ℕ) (i : ℕ) → text ≡ take i text ++ drop i text
+pub take-drop : (text : List ℕ) (i : ℕ) → text ≡ take i text ++ drop i text
 take-drop [] zero = refl
 take-drop [] (suc i) = refl
 take-drop (b ∷ text) zero = refl

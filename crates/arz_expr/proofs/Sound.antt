@@ -1,5 +1,5 @@
 -- What the reading gives is printed as what was read.
-use Rattle.std.proofs.Common.{◌≡◌, ℕ, ◌+◌, ◌^◌, ◌&&◌, true, nat_lt, List, [], ◌∷◌, ◌++◌, codes, Some, IfSome, refl, ap, sym, ◌∙◌, append_assoc}
+use Rattle.std.proofs.Common.{◌≡◌, ℕ, ◌^◌, ◌&&◌, true, nat_lt, List, [], ◌∷◌, ◌++◌, codes, Some, IfSome, refl, ap, sym, ◌∙◌, append_assoc}
 use Rattle.std.specs.List.{list_all}
 use Rattle.std.specs.Fmt.{decimal}
 use Rattle.std.proofs.lemmas.Bool.{and_from}

@@ -1,3 +1,5 @@
 pub mod Grammar
 pub mod Reading
 pub mod Values
+pub mod Filling
+pub mod Cuts

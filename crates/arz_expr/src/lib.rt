@@ -2,13 +2,18 @@
 //! `$response.body#/id`, read by their grammar as expressions, and the values that they stand for.
 #![tactic(auto)]
 
+mod filling;
 pub mod laws;
 mod names;
+mod pieces;
 mod reading;
 mod syntax;
+mod template;
 #[cfg(test)]
 mod tests;
 mod values;
 
+pub use filling::{FillFault, fill};
 pub use syntax::{Base, Expr, Tail};
+pub use template::{Body, Given, Replacement, Template};
 pub use values::{Scope, value};

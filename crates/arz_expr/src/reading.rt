@@ -20,7 +20,7 @@ impl Expr {
 }
 
 #[tactic(auto, unfolding(crate::specs::Reading::reading))]
-fn read_whole(alloc: Global, text: &str) -> Result<Option<Expr>, AllocError>
+pub(crate) fn read_whole(alloc: Global, text: &str) -> Result<Option<Expr>, AllocError>
     ensures { IfOk result (λ r. r ≡ reading text.now) }
 {
     let Some((base, rest)) = read_base(alloc, text)? else {

@@ -1,7 +1,8 @@
-ghost use Rattle.std.specs.Prelude.{Some};
+ghost use Rattle.std.specs.Prelude.{◌≤◌, Some};
+ghost use Rattle.arz_json.specs.Tree.{depth, IsWellFormed};
 
-use crate::{Base, Expr, Scope, Tail, value};
-use arz_json::{Json, read};
+use crate::{Base, Expr, FillFault, Scope, Tail, Template, fill, value};
+use arz_json::{Bytes, Json, compact, read};
 use std::alloc::{AllocError, Global};
 use std::process::Abort;
 use std::test::Fail;
@@ -20,6 +21,7 @@ fn each_alternative_is_read(rt: HostRuntime) -> Result<(), AllocError> {
         "$response.header.content-type",
         "$response.body.items[0].id#/a/~0",
         "$response.body[12][999999999999999999]",
+        "$response.body.a.b-c.d_e[0][1].f[10].g#/h/0/~1",
         "$inputs.a#",
         "$inputs.user_name",
         "$outputs.token",
@@ -45,6 +47,7 @@ fn each_alternative_is_refused(rt: HostRuntime) -> Result<(), AllocError> {
         "$method#",
         "$statusCode ",
         "$request.header.",
+        "$request.header.a b",
         "$request.header.a.b",
         "$request.query.a[0]",
         "$request.path.",
@@ -60,6 +63,9 @@ fn each_alternative_is_refused(rt: HostRuntime) -> Result<(), AllocError> {
         "$response.body[-1]",
         "$response.body#/a b",
         "$response.body#/a|b",
+        "$response.body#/a{b",
+        "$response.body#/a'b",
+        "$response.body#/a\u{7f}",
         "$inputs.",
         "$outputs..a",
         "$steps.a.inputs.b",
@@ -68,6 +74,9 @@ fn each_alternative_is_refused(rt: HostRuntime) -> Result<(), AllocError> {
         "$workflows..inputs.b",
         "$sourceDescriptions.a.b",
         "$sourceDescriptions.a.url.x",
+        "$sourceDescriptions.a.b.name",
+        "$sourceDescriptions..type",
+        "$sourceDescriptions.a.types",
     ];
     for text in texts {
         assert!(rt; Expr::read(rt.alloc(), text)?.is_none(), "{text}");
@@ -99,6 +108,8 @@ fn parts_stand_in_their_places(rt: HostRuntime) -> Result<(), AllocError> {
 #[derive(Drop)]
 struct Whole {
     root: Json,
+    ghost well_formed: { IsWellFormed root },
+    ghost nests: { depth root ≤ 127 },
 }
 
 impl Scope for Whole {
@@ -135,5 +146,118 @@ fn values_are_found(rt: HostRuntime) -> Result<(), Fail> {
     for (text, wanted) in cases {
         assert!(rt; number(rt.alloc(), text, &scope)? == wanted, "{text}");
     }
+    Ok(())
+}
+
+const VALUES: &[u8] =
+    b"{\"n\":7,\"m\":-5,\"t\":\"x\",\"f\":true,\"g\":false,\"z\":null,\"l\":[1,\"a\"],\"o\":{\"b\":[]},\"q\":1.5,\"d\":[1.5]}";
+
+// The text of what the template gives where each base is the tree.
+fn given(alloc: Global, text: &str, scope: &Whole) -> Result<Bytes, Fail> {
+    let tree = read(alloc, text.as_bytes(), 1000)?;
+    let template = Template::read(alloc, &tree)?;
+    let filled = fill(alloc, &template, scope)?;
+    let bytes = compact(alloc, &filled)?;
+    Ok(bytes)
+}
+
+#[test]
+fn templates_are_filled(rt: HostRuntime) -> Result<(), Fail> {
+    let root = read(rt.alloc(), VALUES, 200)?;
+    let scope = Whole { root };
+    let cases = [
+        ("\"$response.body#/n\"", "7"),
+        ("\"$inputs.a.l[1]\"", "\"a\""),
+        ("\"a{$response.body#/n}b\"", "\"a7b\""),
+        ("\"{$response.body#/m}\"", "\"-5\""),
+        (
+            "\"{$inputs.a.t}{$inputs.a.f}{$inputs.a.g}{$inputs.a.z}\"",
+            "\"xtruefalsenull\"",
+        ),
+        (
+            "\"{$inputs.a.l} {$inputs.a.o}\"",
+            "\"[1,\\\"a\\\"] {\\\"b\\\":[]}\"",
+        ),
+        (
+            "\"{ {{$inputs.a.n}} $inputs.a.n {$url.x} {\"",
+            "\"{ {7} $inputs.a.n {$url.x} {\"",
+        ),
+        ("\" $inputs.a.n\"", "\" $inputs.a.n\""),
+        (
+            "{\"$inputs.a.n\":\"$inputs.a.n\",\"{$inputs.a.n}\":[true,5]}",
+            "{\"$inputs.a.n\":7,\"{$inputs.a.n}\":[true,5]}",
+        ),
+    ];
+    for (text, wanted) in cases {
+        let bytes = given(rt.alloc(), text, &scope)?;
+        assert!(rt; bytes.as_slice() == wanted.as_bytes(), "{text}");
+    }
+    Ok(())
+}
+
+fn fault_of(alloc: Global, text: &[u8], scope: &Whole) -> Result<Option<FillFault>, Fail> {
+    let tree = read(alloc, text, 1000)?;
+    let template = Template::read(alloc, &tree)?;
+    Ok(fill(alloc, &template, scope).err())
+}
+
+#[test]
+fn the_first_fault_is_told(rt: HostRuntime) -> Result<(), Fail> {
+    let root = read(rt.alloc(), VALUES, 200)?;
+    let scope = Whole { root };
+    let cases = [
+        ("\"$inputs.a.q\"", None),
+        ("[1.5]", None),
+        ("\"$inputs.a.none\"", Some(FillFault::Unresolved)),
+        (
+            "\"{$inputs.a.none}{$inputs.a.q}\"",
+            Some(FillFault::Unresolved),
+        ),
+        (
+            "\"{$inputs.a.d}{$inputs.a.none}\"",
+            Some(FillFault::FractionUsed),
+        ),
+        (
+            "{\"a\":[\"{$inputs.a.q}\"],\"b\":\"$inputs.a.none\"}",
+            Some(FillFault::FractionUsed),
+        ),
+        (
+            "[[\"$inputs.a.none\"],\"{$inputs.a.q}\"]",
+            Some(FillFault::Unresolved),
+        ),
+    ];
+    for (text, wanted) in cases {
+        assert!(rt;
+            fault_of(rt.alloc(), text.as_bytes(), &scope)? == wanted,
+            "{text}"
+        );
+    }
+    Ok(())
+}
+
+// A text in that many brackets.
+fn nested(alloc: Global, text: &str, levels: usize) -> Result<Vec<u8>, AllocError> {
+    let mut bytes = Vec::new(alloc);
+    for _ in 0..levels {
+        bytes.push(b'[')?;
+    }
+    bytes.extend_from_slice(text.as_bytes())?;
+    for _ in 0..levels {
+        bytes.push(b']')?;
+    }
+    Ok(bytes)
+}
+
+#[test]
+fn templates_nest_to_the_limit(rt: HostRuntime) -> Result<(), Fail> {
+    let alloc = rt.alloc();
+    let root = read(alloc, b"[{\"a\":1.5}]", 100)?;
+    let scope = Whole { root };
+    let within = nested(alloc, "\"$inputs.a\"", 125)?;
+    let deeper = nested(alloc, "\"$inputs.a\"", 126)?;
+    let other = nested(alloc, "\"$inputs.a\",\"{$inputs.a}\"", 126)?;
+    assert!(rt; fault_of(alloc, within.as_slice(), &scope)? == None);
+    assert!(rt; fault_of(alloc, deeper.as_slice(), &scope)? == Some(FillFault::TooNested));
+    assert!(rt; fault_of(alloc, other.as_slice(), &scope)? == Some(FillFault::FractionUsed));
     Ok(())
 }

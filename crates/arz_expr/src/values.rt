@@ -1,6 +1,7 @@
 // The values that expressions stand for.
-ghost use Rattle.std.specs.Prelude.{◌≡◌, slice_get};
+ghost use Rattle.std.specs.Prelude.{◌≡◌, ◌≤◌, slice_get, IfSome};
 ghost use Rattle.std.specs.Option.{option_copied};
+ghost use Rattle.arz_json.specs.Tree.{depth, IsWellFormed};
 ghost use Rattle.arz_expr.specs.Values.{value_in, steps_in, step_in};
 
 use crate::syntax::{Base, Expr, Tail};
@@ -14,16 +15,21 @@ pub trait Scope {
 
     ghost found: { Self → Base → Option Json };
 
-    /// The value of a base, or `None` where it has none. It takes no memory.
+    /// The value of a base, or `None` where it has none. It takes no memory. A value nests at most
+    /// 127 deep, as JSON that is read does.
     fn find(&self, base: &Base) -> Option<&Json>
-        ensures { option_copied result ≡ found self.now base.now };
+        ensures value { option_copied result ≡ found self.now base.now }
+        ensures well_formed { IfSome result (λ j. IsWellFormed j.now) }
+        ensures nests { IfSome result (λ j. depth j.now ≤ 127) };
 }
 
 /// The value that an expression stands for (Arazzo 1.0.1, section 4.7): from the value of its base the
 /// steps of its tail go on, and from there its JSON Pointer (RFC 6901). It is `None` where one of these
 /// isn't there or has another kind. It takes no memory.
 pub fn value<'a, S: Scope>(expr: &Expr, scope: &'a S) -> Option<&'a Json>
-    ensures { option_copied result ≡ value_in (S.found scope.now) expr.now }
+    ensures value { option_copied result ≡ value_in (S.found scope.now) expr.now }
+    ensures well_formed { IfSome result (λ j. IsWellFormed j.now) }
+    ensures nests { IfSome result (λ j. depth j.now ≤ 127) }
 {
     let base = scope.find(&expr.base)?;
     let target = walk(&expr.tail, base)?;
