@@ -1,23 +1,33 @@
 -- Worked plays of a workflow of one step.
-use Rattle.std.proofs.Common.{◌≡◌, [], ◌∷◌, refl, true, Some}
+use Rattle.std.proofs.Common.{◌≡◌, [], ◌∷◌, refl, Bool, false, Some, None}
 use Rattle.arz_json.specs.declared.Json.{Json}
+use Rattle.arz_json.specs.declared.Json.TheVariants.{Object}
+use Rattle.arz_json.specs.Tree.{has_opaque, opaque_step}
+use Rattle.arz_json.proofs.Layers.{folded-Object}
+use Rattle.std.specs.declared.result.Result.TheVariants.{Ok}
 use Rattle.arz_world.specs.declared.Reply.{Reply}
+use Rattle.arz_world.specs.declared.Request.{Request}
 use Rattle.arz_flow.specs.declared.answers.Ask.TheVariants.{Send}
 use Rattle.arz_flow.specs.declared.answers.Answer.TheVariants.{Reply as Replied}
-use Rattle.arz_flow.specs.declared.answers.End.TheVariants.{Completed, Out}
+use Rattle.arz_flow.specs.declared.answers.End.TheVariants.{Broke, Out}
 use Rattle.arz_flow.specs.declared.bundle.Bundle.{Bundle}
-use Rattle.arz_flow.specs.Documents.{steps_of}
+use Rattle.arz_flow.specs.Documents.{steps_of, workflow_named}
 use Rattle.arz_flow.specs.Requests.{request_of}
-use Rattle.arz_flow.specs.Cases.{script, is_success}
+use Rattle.arz_flow.specs.Scopes.{Nothing, found}
+use Rattle.arz_flow.specs.Cases.{script, is_success, begun, surroundings}
 use Rattle.arz_flow.specs.Executions.{end}
 use Rattle.arz_flow.proofs.Executions.{end_whole}
 
 -- no answer: its request is asked for
-pub one_out : (b : Bundle) (step : Json) → steps_of b b.workflow ≡ step ∷ [] → end b [] ≡ Some (Out (Send (request_of b step)))
+pub one_out : (b : Bundle) (step : Json) (q : Request) → steps_of b b.workflow ≡ step ∷ [] → request_of b (found (surroundings b (begun b.workflow b.inputs) []) Nothing) step ≡ Ok q → end b [] ≡ Some (Out (Send q))
 unfolding script
-one_out b step e = rw e refl
+one_out b step q e f = rw (e, f) refl
 
--- a reply with a status of success: the workflow is completed
-pub one_completed : (b : Bundle) (step : Json) (y : Reply) → steps_of b b.workflow ≡ step ∷ [] → is_success y ≡ true → end b (Replied y ∷ []) ≡ Some (Completed [])
+-- no outputs hold no Opaque
+empty_is_plain : has_opaque (Object []) ≡ false
+empty_is_plain = folded-Object Bool opaque_step []
+
+-- a reply of another status than one of success: the run is broken
+pub one_broke : (b : Bundle) (step : Json) (q : Request) (y : Reply) → steps_of b b.workflow ≡ step ∷ [] → workflow_named b.workflow b.arazzo ≡ None → request_of b (found (surroundings b (begun b.workflow b.inputs) []) Nothing) step ≡ Ok q → is_success y ≡ false → end b (Replied y ∷ []) ≡ Some (Broke [])
 unfolding script
-one_completed b step y e f = end_whole b (Replied y ∷ []) 5 (Completed []) (rw (e, f, e) refl)
+one_broke b step q y e w f g = end_whole b (Replied y ∷ []) 5 (Broke []) (rw (e, f, g, w) (rw empty_is_plain refl))

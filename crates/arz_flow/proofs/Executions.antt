@@ -1,13 +1,15 @@
 -- The laws of asks and ends.
-use Rattle.std.proofs.Common.{◌≡◌, ◌≢◌, ℕ, ◌+◌, ◌-◌, ◌≤◌, max, List, [], ◌∷◌, ◌++◌, length, Bool, true, false, Some, None, ap, refl, sym, ◌∙◌, arith, subst, append-nil, length-append}
+use Rattle.std.proofs.Common.{◌≡◌, ◌≢◌, ℕ, ◌+◌, ◌-◌, ◌≤◌, max, List, [], ◌∷◌, ◌++◌, length, Bool, true, false, if◌then◌else◌, Some, None, ap, refl, sym, ◌∙◌, arith, subst, append-nil, length-append}
 use Rattle.arz_flow.specs.declared.answers.Ask.{Ask}
 use Rattle.arz_flow.specs.declared.answers.Answer.{Answer}
 use Rattle.arz_flow.specs.declared.bundle.Bundle.{Bundle}
-use Rattle.arz_flow.specs.Play.{Completed, Broke, Play, Spent, Lost, Out, Ends, Gives}
+use Rattle.arz_json.specs.Tree.{has_opaque}
+use Rattle.arz_json.specs.declared.Json.TheVariants.{Object}
+use Rattle.arz_flow.specs.Play.{Result, Completed, Broke, NoStep, Stuck, Play, Spent, Lost, Out, Ends, Gives}
 use Rattle.arz_flow.specs.Cases.{Runs, script}
 use Rattle.arz_flow.specs.declared.answers.End.{End}
-use Rattle.arz_flow.specs.declared.answers.End.TheVariants.{Out as EndOut}
-use Rattle.arz_flow.specs.Executions.{fits, HasPace, start, execution, pace, fuel, whole, asks_of, end_of, TookAll, asks, end, IsPrefixOf}
+use Rattle.arz_flow.specs.declared.answers.End.TheVariants.{Completed as EndCompleted, Broke as EndBroke, Out as EndOut, Stuck as EndStuck}
+use Rattle.arz_flow.specs.Executions.{fits, HasPace, start, execution, pace, fuel, whole, asks_of, end_of, end_of_result, TookAll, asks, end, IsPrefixOf}
 use Rattle.arz_flow.specs.Laws.{OneEnd, OneMore, PrefixFits}
 use Rattle.arz_flow.specs.Stands.{Comes}
 use Rattle.arz_flow.proofs.Below.{Below, play_below}
@@ -76,13 +78,34 @@ grown asked (Out q s) g n = let h = nothing_left g.added s.left g.count in (h.1,
 grown asked (Ends c s) g n = let h = nothing_left g.added s.left g.count in (h.1, g.asks ∙ rw h.0 (append-nil asked))
 grown asked (Gives r s) g n = let h = nothing_left g.added s.left g.count in (h.1, g.asks ∙ rw h.0 (append-nil asked))
 
-takes_one : (q : Ask) (x : Answer) (p p' : Play) → Extends (x ∷ []) p p' → end_of p ≡ Some (EndOut q) → fits q x ≡ true → p' ≢ Spent → TookAll p' × (asks_of p' ≡ asks_of p ++ q ∷ [])
-takes_one q x Spent p' h e f n = absurd cc
-takes_one q x Lost p' h e f n = absurd cc
-takes_one q x (Ends c s) p' h e f n = absurd cc
-takes_one q x (Gives (Completed outputs) s) p' h e f n = absurd cc
-takes_one q x (Gives (Broke outputs) s) p' h e f n = absurd cc
-takes_one q x (Out a s) p' h e f n =
+abbrev is_out : End → Bool
+is_out (EndOut q) = true
+is_out (EndCompleted outputs) = false
+is_out (EndBroke outputs) = false
+is_out (EndStuck cause at) = false
+
+true_isnt_false : true ≡ false → ⊥
+true_isnt_false e = absurd cc
+
+some_same : (d e : End) → Some d ≡ Some e → d ≡ e
+some_same d e h = cc
+
+-- the end of a result is none for want of an answer
+plain_isnt_out : (b : Bool) (q : Ask) (d e : End) → is_out d ≡ false → is_out e ≡ false → (if b then d else e) ≡ EndOut q → ⊥
+plain_isnt_out true q d e x y same = true_isnt_false (sym (ap is_out same) ∙ x)
+plain_isnt_out false q d e x y same = true_isnt_false (sym (ap is_out same) ∙ y)
+
+result_isnt_out : (w : List ℕ) (o : Result) (q : Ask) → Some (end_of_result w o) ≡ Some (EndOut q) → ⊥
+result_isnt_out w (Completed outputs) q e = plain_isnt_out (has_opaque (Object outputs)) q _ _ refl refl (some_same _ _ e)
+result_isnt_out w (Broke outputs) q e = plain_isnt_out (has_opaque (Object outputs)) q _ _ refl refl (some_same _ _ e)
+
+takes_one : (w : List ℕ) (q : Ask) (x : Answer) (p p' : Play) → Extends (x ∷ []) p p' → end_of w p ≡ Some (EndOut q) → fits q x ≡ true → p' ≢ Spent → TookAll p' × (asks_of p' ≡ asks_of p ++ q ∷ [])
+takes_one w q x Spent p' h e f n = absurd cc
+takes_one w q x Lost p' h e f n = absurd cc
+takes_one w q x (Ends NoStep s) p' h e f n = absurd cc
+takes_one w q x (Ends (Stuck cause at) s) p' h e f n = absurd cc
+takes_one w q x (Gives o s) p' h e f n = absurd (result_isnt_out w o q e)
+takes_one w q x (Out a s) p' h e f n =
     let same : a ≡ q = cc in
     let g : Goes (fits q x) (s.asked ++ q ∷ []) 0 p' = subst (λ z. Goes (fits z x) (s.asked ++ z ∷ []) 0 p') same h.1 in
     let g' : Goes true (s.asked ++ q ∷ []) 0 p' = subst (λ z. Goes z (s.asked ++ q ∷ []) 0 p') f g in
@@ -97,7 +120,7 @@ one_more b r q x fit e f =
     let n_le : fuel (length r) ≤ n = longer in
     let ext : Extends (x ∷ []) (execution b r n) (whole b (r ++ x ∷ [])) = play_extends (script b) (x ∷ []) n _ (start r) in
     let ext' : Extends (x ∷ []) (whole b r) (whole b (r ++ x ∷ [])) = subst (λ p. Extends (x ∷ []) p (whole b (r ++ x ∷ []))) (same_above b r n n_le) ext in
-    takes_one q x (whole b r) (whole b (r ++ x ∷ [])) ext' e f (over_whole b (r ++ x ∷ []))
+    takes_one b.workflow q x (whole b r) (whole b (r ++ x ∷ [])) ext' e f (over_whole b (r ++ x ∷ []))
   where
     longer : fuel (length r) ≤ fuel (length (r ++ x ∷ []))
     longer = fuel_le (length r) (length (r ++ x ∷ [])) (omega (arith, length-append r (x ∷ [])))
@@ -113,12 +136,12 @@ goes_on : (ok : Bool) (asked : List Ask) (n : ℕ) (p : Play) → Goes ok asked 
 goes_on true asked n p g t = begins asked n p g t
 goes_on false asked n p g t = absurd (subst TookAll g t)
 
-prefix : (x : Answer) (rest : List Answer) (p p' : Play) → Extends (x ∷ rest) p p' → p ≢ Spent → TookAll p' → TookAll p × ((q : Ask) × (end_of p ≡ Some (EndOut q)) × IsPrefixOf (asks_of p ++ q ∷ []) (asks_of p'))
-prefix x rest Spent p' h n t = absurd (n refl)
-prefix x rest Lost p' h n t = absurd (subst TookAll h t)
-prefix x rest (Ends c s) p' h n t = absurd (not_empty s.left x rest (subst TookAll h t))
-prefix x rest (Gives r s) p' h n t = absurd (not_empty s.left x rest (subst TookAll h t))
-prefix x rest (Out q s) p' h n t = (h.0, (q, refl, goes_on (fits q x) (s.asked ++ q ∷ []) (length rest) p' h.1 t))
+prefix : (w : List ℕ) (x : Answer) (rest : List Answer) (p p' : Play) → Extends (x ∷ rest) p p' → p ≢ Spent → TookAll p' → TookAll p × ((q : Ask) × (end_of w p ≡ Some (EndOut q)) × IsPrefixOf (asks_of p ++ q ∷ []) (asks_of p'))
+prefix w x rest Spent p' h n t = absurd (n refl)
+prefix w x rest Lost p' h n t = absurd (subst TookAll h t)
+prefix w x rest (Ends c s) p' h n t = absurd (not_empty s.left x rest (subst TookAll h t))
+prefix w x rest (Gives r s) p' h n t = absurd (not_empty s.left x rest (subst TookAll h t))
+prefix w x rest (Out q s) p' h n t = (h.0, (q, refl, goes_on (fits q x) (s.asked ++ q ∷ []) (length rest) p' h.1 t))
 
 pub prefix_fits : PrefixFits
 prefix_fits b p x rest fit =
@@ -126,15 +149,15 @@ prefix_fits b p x rest fit =
     let n_le : fuel (length p) ≤ n = fuel_le (length p) (length (p ++ x ∷ rest)) (omega (arith, length-append p (x ∷ rest))) in
     let ext : Extends (x ∷ rest) (execution b p n) (whole b (p ++ x ∷ rest)) = play_extends (script b) (x ∷ rest) n _ (start p) in
     let ext' : Extends (x ∷ rest) (whole b p) (whole b (p ++ x ∷ rest)) = subst (λ z. Extends (x ∷ rest) z (whole b (p ++ x ∷ rest))) (same_above b p n n_le) ext in
-    prefix x rest (whole b p) (whole b (p ++ x ∷ rest)) ext' (over_whole b p) fit
+    prefix b.workflow x rest (whole b p) (whole b (p ++ x ∷ rest)) ext' (over_whole b p) fit
 
 -- what some fuel comes to is what the whole comes to
 pub comes_whole : (b : Bundle) (r : List Answer) (p : Play) → Comes b r p → p ≢ Spent → whole b r ≡ p
 comes_whole b r p c over = sym (same_over b r c.0 (λ e. over (sym c.1 ∙ e))) ∙ c.1
 
 -- an end that some fuel comes to is the end
-pub end_whole : (b : Bundle) (r : List Answer) (n : ℕ) (e : End) → end_of (execution b r n) ≡ Some e → end b r ≡ Some e
-end_whole b r n e h = sym (ap end_of (same_over b r n (λ s. some_none e (sym h ∙ ap end_of s)))) ∙ h
+pub end_whole : (b : Bundle) (r : List Answer) (n : ℕ) (e : End) → end_of b.workflow (execution b r n) ≡ Some e → end b r ≡ Some e
+end_whole b r n e h = sym (ap (end_of b.workflow) (same_over b r n (λ s. some_none e (sym h ∙ ap (end_of b.workflow) s)))) ∙ h
   where
     some_none : (x : End) → Some x ≡ None → ⊥
     some_none x f = absurd cc

@@ -5,8 +5,14 @@ use Rattle.arz_json.specs.declared.Json.{Json}
 use Rattle.arz_json.specs.declared.Member.{Member}
 use Rattle.arz_flow.specs.declared.bundle.Bundle.{Bundle}
 use Rattle.arz_flow.specs.Documents.{steps_of}
-use Rattle.arz_flow.specs.Play.{Result, Completed, Broke, Seen, Script, Plays}
-use Rattle.arz_flow.specs.Cases.{Run, Case, Runs, Enters, Goes_on, Closes, give, after_run, with_step, is_success, attempt, next_step, script}
+use Rattle.std.specs.declared.result.Result.TheVariants.{Ok, Err}
+use Rattle.arz_world.specs.declared.Request.{Request}
+use Rattle.arz_flow.specs.declared.answers.Spot.{Spot}
+use Rattle.arz_flow.specs.Outcomes.{Made}
+use Rattle.arz_flow.specs.Play.{Result, Completed, Broke, Seen, Script, Plays, Sends}
+use Rattle.arz_flow.specs.Requests.{request_of}
+use Rattle.arz_flow.specs.Scopes.{Nothing, found}
+use Rattle.arz_flow.specs.Cases.{Run, Case, Runs, Enters, Goes_on, Closes, give, after_run, with_step, with_request, spot, surroundings, fact_of, with_fact, after_reply, is_success, attempt, next_step, script}
 use Rattle.arz_flow.proofs.Bounded.{Bounded}
 
 fewer : (x y k : ℕ) → x < y → x * k + k ≤ y * k
@@ -57,10 +63,15 @@ module _ (b : Bundle) (K : ℕ) (big : 8 ≤ K) where
   next_bd n a t r i None le gap = tail n a 0 (t + 1) (t + 2) (Closes r true) le (omega (arith, gap)) (omega arith) (omega arith)
   next_bd n a t r i (Some step) le gap = tail n a 0 (t + 1) (t + 2) (Enters r i) le (omega (arith, gap)) (omega arith) (omega arith)
 
+  request_bd : (o : Made Request) (at : Spot) (n a owed t up : ℕ) (k : Request → Script Case) → t ≤ K → ((q : Request) → Bd n (k q) a owed t up) → Bd n (with_request o at k) a owed t up
+  request_bd (Ok q) at n a owed t up k le h = h q
+  request_bd (Err cause) at n a owed t up k le h = le
+
   -- after a reply an answer fewer is left
-  attempt_bd : (n a t : ℕ) (r : Run) (i : ℕ) (step : Json) → a * K ≤ n → t ≤ K → Bd n (attempt b r i step) a 1 t 2
-  attempt_bd n a t r i step le gap =
-      (gap, λ y v a' lt. tail n a' 0 0 2 (Goes_on r i (is_success y)) (omega (arith, le, fewer a' a K lt, big)) (omega (arith, big)) (omega arith) (omega arith))
+  attempt_bd : (n a t : ℕ) (r : Run) (i : ℕ) (v : Seen) (step : Json) → a * K ≤ n → t ≤ K → Bd n (attempt b r i v step) a 1 t 2
+  attempt_bd n a t r i v step le gap =
+      request_bd (request_of b (found (surroundings b r v.done) Nothing) step) (spot r step) n a 1 t 2 (λ q. Sends q (after_reply b r i step q)) gap (λ q.
+      (gap, λ y w a' lt. tail n a' 0 0 2 (Goes_on (with_fact r (fact_of b r w.done step q y)) i (is_success y)) (omega (arith, le, fewer a' a K lt, big)) (omega (arith, big)) (omega arith) (omega arith)))
 
   -- each case
   pub script_bounded : (g : Case) (v : Seen) (n a t : ℕ) → Fine g → a * K + local g ≤ suc n → t + local g ≤ K → Bd n (script b g v) a (owes g) (t + 1) (outs g t)
@@ -68,8 +79,8 @@ module _ (b : Bundle) (K : ℕ) (big : 8 ≤ K) where
   script_bounded (Runs w inputs) v n a t fine le gap =
       (tt, omega (arith, le), omega (arith, gap), λ o u a' t' e f. ends_bd n a' t' w inputs o u f)
   script_bounded (Enters r i) v n a t fine le gap =
-      step_bd (slice_get (steps_of b r.workflow) i) n a 1 (t + 1) 2 (attempt b r i) (omega (arith, gap)) (λ step.
-      attempt_bd n a (t + 1) r i step (omega (arith, le)) (omega (arith, gap)))
+      step_bd (slice_get (steps_of b r.workflow) i) n a 1 (t + 1) 2 (attempt b r i v) (omega (arith, gap)) (λ step.
+      attempt_bd n a (t + 1) r i v step (omega (arith, le)) (omega (arith, gap)))
   script_bounded (Goes_on r i true) v n a t fine le gap =
       next_bd n a t r (i + 1) (slice_get (steps_of b r.workflow) (i + 1)) (omega (arith, le)) (omega (arith, gap))
   script_bounded (Goes_on r i false) v n a t fine le gap = tail n a 0 (t + 1) (t + 2) (Closes r false) (omega (arith, le)) (omega (arith, gap)) (omega arith) (omega arith)

@@ -6,3 +6,4 @@ pub mod Fuel
 pub mod Executions
 pub mod Standing
 pub mod Examples
+pub mod Within

@@ -103,3 +103,12 @@ gives_whole b o p r st = here_whole b r (Gives o (state [] p)) (st.goes [] 0 (gi
   where
     gives_over : (a : Result) (s : State) → Gives a s ≢ Spent
     gives_over a s e = absurd cc
+
+-- an execution that stands where everything ends has come to that
+pub stops_whole : (b : Bundle) (h : Halt) (ks : List Follow) (p : Past) (r : List Answer) → Stands b (Stops h) ks p r → whole b r ≡ Ends h (state [] p)
+stops_whole b h ks p r st =
+    let ended = stops_stands b h ks p r st in
+    here_whole b r (Ends h (state [] p)) (ended.goes [] 0 (ends_over h (state [] p))) (ends_over h (state [] p))
+  where
+    ends_over : (a : Halt) (s : State) → Ends a s ≢ Spent
+    ends_over a s e = absurd cc

@@ -1,13 +1,17 @@
 -- The asks and the end of an execution.
-use Rattle.std.specs.Prelude.{ℕ, ◌+◌, ◌*◌, ◌≡◌, ◌≤◌, Bool, true, false, List, [], ◌++◌, Option, Some, None, length}
+use Rattle.std.specs.Prelude.{ℕ, ◌+◌, ◌*◌, ◌≡◌, ◌≤◌, Bool, true, false, List, [], ◌++◌, if◌then◌else◌, Option, Some, None, length}
 use Rattle.arz_flow.specs.declared.bundle.Bundle.{Bundle}
 use Rattle.arz_flow.specs.declared.answers.Ask.{Ask}
 use Rattle.arz_flow.specs.declared.answers.Ask.TheVariants.{Send, Wait}
 use Rattle.arz_flow.specs.declared.answers.Answer.{Answer}
 use Rattle.arz_flow.specs.declared.answers.Answer.TheVariants.{Reply as Replied, Served}
 use Rattle.arz_flow.specs.declared.answers.End.{End}
-use Rattle.arz_flow.specs.declared.answers.End.TheVariants.{Completed as EndCompleted, Out as EndOut}
-use Rattle.arz_flow.specs.Play.{State, Play, Spent, Lost, Out, Ends, Gives, Completed, Broke, play}
+use Rattle.arz_flow.specs.declared.answers.Cause.TheVariants.{FractionUsed}
+use Rattle.arz_flow.specs.declared.answers.End.TheVariants.{Completed as EndCompleted, Broke as EndBroke, Out as EndOut, Stuck as EndStuck}
+use Rattle.arz_json.specs.Tree.{has_opaque}
+use Rattle.arz_json.specs.declared.Json.TheVariants.{Object}
+use Rattle.arz_json.specs.declared.Member.{Member}
+use Rattle.arz_flow.specs.Play.{State, Result, Play, Spent, Lost, Out, Ends, Gives, Completed, Broke, NoStep, Stuck, play}
 use Rattle.arz_flow.specs.Cases.{Runs, script}
 
 -- whether an answer fits its ask
@@ -42,13 +46,22 @@ asks_of (Out q s) = s.asked
 asks_of (Ends c s) = s.asked
 asks_of (Gives o s) = s.asked
 
-abbrev pub end_of : Play → Option End
-end_of Spent = None
-end_of Lost = None
-end_of (Out q s) = Some (EndOut q)
-end_of (Ends c s) = None
-end_of (Gives (Completed outputs) s) = Some (EndCompleted outputs)
-end_of (Gives (Broke outputs) s) = None
+-- an end with these outputs, which may hold no Opaque
+abbrev pub plain_end : List ℕ → List Member → End → End
+plain_end workflow outputs e = if has_opaque (Object outputs) then EndStuck FractionUsed (record { workflow = workflow; step = None }) else e
+
+abbrev pub end_of_result : List ℕ → Result → End
+end_of_result workflow (Completed outputs) = plain_end workflow outputs (EndCompleted outputs)
+end_of_result workflow (Broke outputs) = plain_end workflow outputs (EndBroke outputs)
+
+-- the end that a play of the starting workflow comes to
+abbrev pub end_of : List ℕ → Play → Option End
+end_of workflow Spent = None
+end_of workflow Lost = None
+end_of workflow (Out q s) = Some (EndOut q)
+end_of workflow (Ends NoStep s) = None
+end_of workflow (Ends (Stuck cause at) s) = Some (EndStuck cause at)
+end_of workflow (Gives o s) = Some (end_of_result workflow o)
 
 -- the play has come to an end, and took all answers
 abbrev pub TookAll : Play → Type 0
@@ -64,7 +77,7 @@ asks b r = asks_of (whole b r)
 
 -- the end of the execution
 abbrev pub end : Bundle → List Answer → Option End
-end b r = end_of (whole b r)
+end b r = end_of b.workflow (whole b r)
 
 -- all of the answers were taken, and each fits its ask
 abbrev pub Fitting : Bundle → List Answer → Type 0

@@ -6,6 +6,8 @@ use Rattle.arz_world.specs.declared.Reply.{Reply}
 use Rattle.arz_flow.specs.declared.answers.Ask.{Ask}
 use Rattle.arz_flow.specs.declared.answers.Ask.TheVariants.{Send, Wait}
 use Rattle.arz_flow.specs.declared.answers.Answer.{Answer}
+use Rattle.arz_flow.specs.declared.answers.Cause.{Cause}
+use Rattle.arz_flow.specs.declared.answers.Spot.{Spot}
 use Rattle.arz_flow.specs.declared.answers.Answer.TheVariants.{Reply as Replied, Served}
 
 -- a run that is over, with its outputs
@@ -13,9 +15,10 @@ pub data Result : Type 0 where
   Completed : List Member → Result
   Broke : List Member → Result
 
--- what ends everything, wherever it arises: a step that isn't there
+-- what ends everything, wherever it arises: a step that isn't there, or a cause at a place
 pub data Halt : Type 0 where
   NoStep : Halt
+  Stuck : Cause → Spot → Halt
 
 -- one completed run of a workflow
 pub record Completion : Type 0 where

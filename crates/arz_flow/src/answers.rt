@@ -1,5 +1,5 @@
 // What an execution asks of the outside, what it is answered, and how it ends.
-use arz_json::Members;
+use arz_json::{Members, Text};
 use arz_world::{Reply as ReplyMessage, Request};
 
 /// What is asked of the outside.
@@ -20,11 +20,39 @@ pub enum Answer {
     Served,
 }
 
+/// Why an execution can't go on.
+#[derive(Clone, Copy, Debug, PartialEq, Eq)]
+pub enum Cause {
+    /// An expression of a parameter has no value.
+    Unresolved,
+    /// A number with a fraction or an exponent, or past 64 bits, would have to be written.
+    FractionUsed,
+    /// A filled value would nest too deep.
+    TooNested,
+    /// A value can't be written in the style of its parameter.
+    NotSerializable,
+    /// A request would have too many bytes.
+    RequestTooLarge,
+}
+
+/// A place in a description: a workflow, or one of its steps.
+#[derive(Debug, Drop)]
+pub struct Spot {
+    /// The workflowId.
+    pub workflow: Text,
+    /// The stepId, where a step is meant.
+    pub step: Option<Text>,
+}
+
 /// How an execution ends.
 #[derive(Debug, Drop)]
 pub enum End {
     /// The workflow was completed, with these outputs.
     Completed(Members),
+    /// A step failed, and the workflow was left with these outputs.
+    Broke(Members),
     /// No answer is left for this ask.
     Out(Ask),
+    /// It can't go on at this place.
+    Stuck(Cause, Spot),
 }

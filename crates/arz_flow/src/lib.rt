@@ -3,11 +3,15 @@
 
 mod answers;
 mod bundle;
+mod facts;
 pub mod laws;
 mod lines;
+mod look;
 #[cfg(test)]
 mod tests;
 
-pub use answers::{Answer, Ask, End};
+pub use answers::{Answer, Ask, Cause, End, Spot};
 pub use bundle::{Bundle, NamedText};
+pub use facts::Fact;
 pub use lines::{ask_text, end_line, send_text};
+pub use look::{items_at, members_at, text_at};

@@ -1,9 +1,9 @@
 // The lines that tell of asks and of ends.
-ghost use Rattle.std.specs.Prelude.{◌≡◌, IfOk};
+ghost use Rattle.std.specs.Prelude.{◌≡◌, IfOk, string_bytes};
 ghost use Rattle.arz_flow.specs.declared.answers.Ask.{Ask};
-ghost use Rattle.arz_flow.specs.Lines.{ask_text as text_of_ask, line_of_end};
+ghost use Rattle.arz_flow.specs.Lines.{ask_text as text_of_ask, cause_text as text_of_cause, spot_text as text_of_spot, line_of_end};
 
-use crate::answers::{Ask, End};
+use crate::answers::{Ask, Cause, End, Spot};
 use arz_json::{Bytes, Text};
 use arz_world::Request;
 use std::alloc::{AllocError, Global};
@@ -40,6 +40,13 @@ pub fn end_line(alloc: Global, end: &End, n: u32) -> Result<Bytes, AllocError>
 {
     let line = match end {
         End::Completed(_) => String::from_str(alloc, "completed")?,
+        End::Broke(_) => String::from_str(alloc, "broke")?,
+        End::Stuck(cause, spot) => {
+            let cause = cause_text(*cause);
+            let spot = spot_text(alloc, spot)?;
+            let spot = spot.as_str();
+            format!(in alloc; "stuck {cause} {spot}")?
+        }
         End::Out(ask) => {
             let ask = ask_text(alloc, ask)?;
             let ask = ask.as_str();
@@ -47,4 +54,29 @@ pub fn end_line(alloc: Global, end: &End, n: u32) -> Result<Bytes, AllocError>
         }
     };
     Ok(Bytes::from_std(line.into_bytes()))
+}
+
+// The name of a cause.
+fn cause_text(cause: Cause) -> &'static str
+    ensures { result.now ≡ text_of_cause cause }
+{
+    match cause {
+        Cause::Unresolved => "Unresolved",
+        Cause::FractionUsed => "FractionUsed",
+        Cause::TooNested => "TooNested",
+        Cause::NotSerializable => "NotSerializable",
+        Cause::RequestTooLarge => "RequestTooLarge",
+    }
+}
+
+// `WORKFLOW/STEP`, or `WORKFLOW`.
+fn spot_text(alloc: Global, spot: &Spot) -> Result<String, AllocError>
+    ensures { IfOk result (λ text. string_bytes text ≡ text_of_spot spot.now) }
+{
+    let mut text = String::from_str(alloc, spot.workflow.as_str())?;
+    if let Some(step) = &spot.step {
+        text.push_str("/")?;
+        text.push_str(step.as_str())?;
+    }
+    Ok(text)
 }

@@ -1,4 +1,4 @@
-use crate::{Ask, End, ask_text, end_line, send_text};
+use crate::{Ask, Cause, End, Spot, ask_text, end_line, send_text};
 use arz_json::{Many, Text};
 use arz_world::{Request, Server};
 use std::alloc::{AllocError, Global};
@@ -40,11 +40,36 @@ fn tells_asks(rt: HostRuntime) -> Result<(), Fail> {
 }
 
 #[test]
-fn tells_ends(rt: HostRuntime) -> Result<(), Fail> {
+fn tells_of_completion(rt: HostRuntime) -> Result<(), Fail> {
     let alloc = rt.alloc();
     let completed = end_line(alloc, &End::Completed(Many::new(alloc)), 3)?;
     assert_eq!(rt; completed.as_slice(), b"completed".as_slice());
+    Ok(())
+}
+
+#[test]
+fn tells_of_a_broken_run(rt: HostRuntime) -> Result<(), Fail> {
+    let alloc = rt.alloc();
+    let broke = end_line(alloc, &End::Broke(Many::new(alloc)), 3)?;
+    assert_eq!(rt; broke.as_slice(), b"broke".as_slice());
+    Ok(())
+}
+
+#[test]
+fn tells_which_ask_lacks_an_answer(rt: HostRuntime) -> Result<(), Fail> {
+    let alloc = rt.alloc();
     let out = end_line(alloc, &End::Out(Ask::Wait(5)), 3)?;
     assert_eq!(rt; out.as_slice(), b"out 3 wait 5".as_slice());
+    Ok(())
+}
+
+#[test]
+fn tells_where_it_is_stuck(rt: HostRuntime) -> Result<(), Fail> {
+    let alloc = rt.alloc();
+    let step = Some(text(alloc, "get")?);
+    let workflow = text(alloc, "main")?;
+    let stuck = End::Stuck(Cause::Unresolved, Spot { workflow, step });
+    let line = end_line(alloc, &stuck, 1)?;
+    assert_eq!(rt; line.as_slice(), b"stuck Unresolved main/get".as_slice());
     Ok(())
 }
