@@ -1,2 +1,11 @@
+pub mod ById
 pub mod Finding
+pub mod First
+pub mod Forms
+pub mod Given
+pub mod Joined
 pub mod PathParts
+pub mod Reserved
+pub mod Sizes
+pub mod Taking
+pub mod Shallow

@@ -4,10 +4,9 @@ use Rattle.std.specs.List.{flat_map}
 use Rattle.std.proofs.lemmas.List.Concat.{flat_map-cons}
 use Rattle.std.proofs.lemmas.Bool.{ne_eqb}
 use Rattle.std.proofs.lemmas.Grind.{flat_map-append}
-use Rattle.arz_world.specs.declared.Sent.{Sent}
 use Rattle.arz_flow.specs.Texts.{split_once}
 use Rattle.arz_flow.specs.Paths.{Part, Name, Byte, name_before, name_at, part_of, others_of, parts_after, parts}
-use Rattle.arz_flow.specs.Requests.{expanded_part, expanded}
+use Rattle.arz_flow.specs.Requests.{Given, expanded_part, expanded}
 
 -- none of the bytes is c
 abbrev pub Lacks : ℕ → List ℕ → Type 0
@@ -43,9 +42,9 @@ parts-name tail name rest named is =
 pub parts-open : (tail : List ℕ) → name_before (split_once 125 tail) ≡ None → parts (123 ∷ tail) ≡ Byte 123 ∷ parts tail
 parts-open tail none = rw none refl
 
-pub expanded-bytes : (sent : List Sent) (xs : List ℕ) → flat_map (expanded_part sent) (map Byte xs) ≡ xs
-expanded-bytes sent [] = refl
-expanded-bytes sent (x ∷ xs) = flat_map-cons (expanded_part sent) (Byte x) (map Byte xs) ∙ ap (λ ys. x ∷ ys) (expanded-bytes sent xs)
+pub expanded-bytes : (gs : List Given) (xs : List ℕ) → flat_map (expanded_part gs) (map Byte xs) ≡ xs
+expanded-bytes gs [] = refl
+expanded-bytes gs (x ∷ xs) = flat_map-cons (expanded_part gs) (Byte x) (map Byte xs) ∙ ap (λ ys. x ∷ ys) (expanded-bytes gs xs)
 
 pub parts-all : (path : List ℕ) → Lacks 123 path → parts path ≡ map Byte path
 parts-all path lacks = sym (ap parts (append-nil path)) ∙ parts-plain path [] lacks ∙ append-nil (map Byte path)
@@ -71,13 +70,20 @@ cut-open path plain tail is lacks none = (
 )
 
 -- one cut is written, and what is left follows
-pub expanded-cut : (sent : List Sent) (path plain rest : List ℕ) (part : Part) → parts path ≡ (map Byte plain ++ part ∷ []) ++ parts rest
-    → expanded sent path ≡ (plain ++ expanded_part sent part) ++ expanded sent rest
-expanded-cut sent path plain rest part is =
-    let f = expanded_part sent in
+pub expanded-cut : (gs : List Given) (path plain rest : List ℕ) (part : Part) → parts path ≡ (map Byte plain ++ part ∷ []) ++ parts rest
+    → expanded gs path ≡ (plain ++ expanded_part gs part) ++ expanded gs rest
+expanded-cut gs path plain rest part is =
+    let f = expanded_part gs in
     ap (flat_map f) is ∙ flat_map-append f (map Byte plain ++ part ∷ []) (parts rest)
-    ∙ ap (λ ys. ys ++ expanded sent rest) (flat_map-append f (map Byte plain) (part ∷ []) ∙ ap (λ ys. ys ++ flat_map f (part ∷ [])) (expanded-bytes sent plain)
+    ∙ ap (λ ys. ys ++ expanded gs rest) (flat_map-append f (map Byte plain) (part ∷ []) ∙ ap (λ ys. ys ++ flat_map f (part ∷ [])) (expanded-bytes gs plain)
     ∙ ap (λ ys. plain ++ ys) (flat_map-cons f part [] ∙ append-nil (f part)))
 
-pub expanded-all : (sent : List Sent) (path : List ℕ) → parts path ≡ map Byte path → expanded sent path ≡ path
-expanded-all sent path is = ap (flat_map (expanded_part sent)) is ∙ expanded-bytes sent path
+pub expanded-all : (gs : List Given) (path : List ℕ) → parts path ≡ map Byte path → expanded gs path ≡ path
+expanded-all gs path is = ap (flat_map (expanded_part gs)) is ∙ expanded-bytes gs path
+
+-- one cut was written behind what was there
+pub goes-on : (gs : List Given) (whole out new path plain rest : List ℕ) (part : Part) → out ++ expanded gs path ≡ whole
+    → parts path ≡ (map Byte plain ++ part ∷ []) ++ parts rest → new ≡ out ++ (plain ++ expanded_part gs part) → new ++ expanded gs rest ≡ whole
+goes-on gs whole out new path plain rest part before cut here =
+    ap (λ ys. ys ++ expanded gs rest) here ∙ append_assoc out (plain ++ expanded_part gs part) (expanded gs rest)
+    ∙ ap (λ ys. out ++ ys) (sym (expanded-cut gs path plain rest part cut)) ∙ before

@@ -2,9 +2,8 @@
 use Rattle.std.specs.Prelude.{ℕ, List, [], ◌∷◌, ◌++◌, map, Option, Some, None}
 use Rattle.std.specs.Option.{option_copied}
 use Rattle.std.specs.List.{flat_map}
-use Rattle.arz_world.specs.declared.Sent.{Sent}
 use Rattle.arz_flow.specs.Paths.{Part, Name, Byte}
-use Rattle.arz_flow.specs.Requests.{expanded_part, value_of}
+use Rattle.arz_flow.specs.Requests.{Given, expanded_part}
 use Rattle.arz_request.specs.declared.paths.Cut.{Cut}
 
 -- a name, or the `{` that begins none
@@ -16,6 +15,6 @@ opened None = Byte 123
 abbrev pub parts_to : Cut → List Part
 parts_to c = map Byte c.plain.now ++ opened (option_copied c.name) ∷ []
 
--- the same with the values of parameters
-abbrev pub expanded_cut : List Sent → Cut → List ℕ
-expanded_cut sent c = c.plain.now ++ expanded_part sent (opened (option_copied c.name))
+-- the same with the texts of parameters
+abbrev pub expanded_cut : List Given → Cut → List ℕ
+expanded_cut gs c = c.plain.now ++ expanded_part gs (opened (option_copied c.name))

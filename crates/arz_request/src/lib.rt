@@ -1,16 +1,21 @@
 //! The steps of a bundle and their requests, read from the raw documents.
 #![tactic(auto)]
 
-mod look;
+mod faults;
+mod names;
 mod operations;
+mod parameters;
 mod paths;
 mod requests;
+mod size;
+mod style;
 mod urls;
 
-pub use look::{items_at, members_at, text_at};
-pub use operations::{OperationAt, find_in};
+pub use faults::BuildFault;
+pub use operations::{OperationAt, Operations, find_in};
 pub use paths::{Cut, next_cut};
-pub use requests::{request, steps};
+pub use requests::{request, steps, workflow};
+pub use style::{StyleFault, simple};
 pub use urls::{Authority, authority_of};
 
 #[cfg(test)]

@@ -1,15 +1,17 @@
-// A path with the values of parameters in place of its `{name}` parts.
+// A path with the texts of parameters in place of its `{name}` parts.
 ghost use Rattle.std.specs.Prelude.{◌≡◌, ◌++◌, ◌∷◌, ◌<◌, length, map, None, Some, MatchOption, IfSome, OnOk, string_bytes, IsUtf8};
 ghost use Rattle.std.specs.Option.{option_copied};
-ghost use Rattle.std.specs.List.{list_all, find};
-ghost use Rattle.std.specs.Str.{bytes_eq};
+ghost use Rattle.std.specs.List.{list_all};
 ghost use Rattle.arz_flow.specs.Texts.{split_once as split_at_first};
 ghost use Rattle.arz_flow.specs.Paths.{Byte, parts, name_before, is_name as is_name_text, is_inside as is_byte_inside};
-ghost use Rattle.arz_flow.specs.Requests.{simple, value_of, expanded};
+ghost use Rattle.arz_flow.specs.Requests.{text_named, expanded};
+ghost use Rattle.arz_request.specs.Builds.{Fits};
 ghost use Rattle.arz_request.specs.Cut.{parts_to, expanded_cut};
 
-use arz_json::Json;
-use arz_world::Sent;
+use crate::faults::BuildFault;
+use crate::names::ByName;
+use crate::size::LIMIT;
+use arz_flow::Cause;
 use std::alloc::AllocError;
 
 /// What stands in a path up to the end of its first `{name}`, or up to a `{` that begins none.
@@ -82,50 +84,43 @@ fn is_inside(byte: u8) -> bool
     !(byte == b'{' || byte == b'}' || byte == b'/')
 }
 
-/// Puts a path behind a text, with the value of the parameter in place of each `{name}`.
-pub(crate) fn push_expanded(out: &mut String, path: &str, sent: &[Sent]) -> Result<(), AllocError>
-    ensures { OnOk result (string_bytes out.new ≡ string_bytes out.old ++ expanded sent.now path.now) }
+/// Puts a path behind a text, with the text of the parameter in place of each `{name}` (OpenAPI 3.1.1,
+/// 4.8.8.2). It ends where the text is too large for any request.
+pub(crate) fn push_expanded(
+    out: &mut String,
+    path: &str,
+    parameters: &ByName,
+) -> Result<(), BuildFault>
+    ensures { Fits (string_bytes out.old) (string_bytes out.new) result (expanded parameters.now path.now) }
 {
     let mut rest = path;
     'parts: while let Some(part) = next_cut(rest) {
-        push_cut(out, &part, sent)?;
+        push_cut(out, &part, parameters)?;
+        if out.len() > LIMIT {
+            return Err(BuildFault::Stuck(Cause::RequestTooLarge));
+        }
         rest = part.rest;
     }
-    out.push_str(rest)
+    out.push_str(rest)?;
+    Ok(())
 }
 
-fn push_cut(out: &mut String, part: &Cut, sent: &[Sent]) -> Result<(), AllocError>
-    ensures { OnOk result (string_bytes out.new ≡ string_bytes out.old ++ expanded_cut sent.now part.now) }
+fn push_cut(out: &mut String, part: &Cut, parameters: &ByName) -> Result<(), AllocError>
+    ensures { OnOk result (string_bytes out.new ≡ string_bytes out.old ++ expanded_cut parameters.now part.now) }
 {
     out.push_str(part.plain)?;
     match part.name {
-        Some(name) => push_value(out, sent, name),
+        Some(name) => push_named(out, parameters, name),
         None => out.push_str("{"),
     }
 }
 
-// The value of the first parameter with this name.
-fn push_value(out: &mut String, sent: &[Sent], name: &str) -> Result<(), AllocError>
-    ensures { OnOk result (string_bytes out.new ≡ string_bytes out.old ++ value_of sent.now name.now) }
+// The text of the first parameter with this name.
+fn push_named(out: &mut String, parameters: &ByName, name: &str) -> Result<(), AllocError>
+    ensures { OnOk result (string_bytes out.new ≡ string_bytes out.old ++ text_named parameters.now name.now) }
 {
-    match find_sent(sent, name) {
-        Some(sent) => push_simple(out, &sent.value),
+    match parameters.find(name) {
+        Some(parameter) => out.push_str(parameter.text()),
         None => Ok(()),
-    }
-}
-
-fn find_sent<'a>(sent: &'a [Sent], name: &str) -> Option<&'a Sent>
-    ensures { option_copied result ≡ find (λ s. bytes_eq s.name name.now) sent.now }
-{
-    sent.iter().find(|s| s.name.as_str() == name)
-}
-
-fn push_simple(out: &mut String, value: &Json) -> Result<(), AllocError>
-    ensures { OnOk result (string_bytes out.new ≡ string_bytes out.old ++ simple value.now) }
-{
-    match value {
-        Json::Int(n) => write!(out, "{n}"),
-        Json::Text(text) => out.push_str(text.as_str()),
-        _ => Ok(()),
     }
 }

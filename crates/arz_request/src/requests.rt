@@ -1,27 +1,41 @@
 // The request of a step, from the raw documents.
-ghost use Rattle.std.specs.Prelude.{◌≡◌, ◌++◌, IfOk, OnOk, unwrap_or, string_bytes};
+ghost use Rattle.std.specs.Prelude.{All, ◌≡◌, ◌++◌, IfOk, OnOk, map, unwrap_or, string_bytes};
 ghost use Rattle.std.specs.Str.{str_to_ascii_uppercase};
 ghost use Rattle.std.specs.Option.{option_copied};
-ghost use Rattle.arz_flow.specs.Documents.{workflow_named as workflow_with, steps_of, operation_of as operation_named_by};
+ghost use Rattle.arz_json.specs.Tree.{IsWellFormed};
+ghost use Rattle.arz_flow.specs.Documents.{workflow_named as workflow_with, steps_of};
+ghost use Rattle.arz_flow.specs.Requests.{expanded, request_by, request_to, within_limit, headers_for, header as header_of, no_server, port_suffix};
+ghost use Rattle.arz_flow.specs.Shallow.{IsShallow, SendsShallow};
 ghost use Rattle.arz_flow.specs.Urls.{server_of as server_named};
-ghost use Rattle.arz_flow.specs.Requests.{request_of, sent_by, sent_of, headers_for, header as header_of, no_server, port_suffix};
 ghost use Rattle.arz_request.specs.Authority.{server_seen};
+ghost use Rattle.arz_request.specs.Builds.{Builds, FitsIn};
 ghost use Rattle.arz_request.specs.Operations.{seen};
 
-use crate::look::{items_at, text_at};
-use crate::operations::{OperationAt, find_operation};
+use crate::faults::BuildFault;
+use crate::names::ByName;
+use crate::operations::OperationAt;
+use crate::parameters::{Written, write_all};
 use crate::paths::push_expanded;
+use crate::size::is_within_limit;
 use crate::urls::{Authority, authority_of};
-use arz_flow::Bundle;
-use arz_json::{Bytes, Json, Location, Many, Text, copy};
+use arz_expr::Scope;
+use arz_flow::{Bundle, Cause, items_at, text_at};
+use arz_json::{Bytes, Json, Many, Text};
 use arz_world::{Header, Request, Sent, Server};
 use std::alloc::{AllocError, Global};
 
-/// The steps of the workflow that is run.
+/// The workflow that is run, where the description has it (Arazzo 1.0.1, 4.6.4).
+pub fn workflow(bundle: &Bundle) -> Option<&Json>
+    ensures { option_copied result ≡ workflow_with bundle.now.workflow bundle.now.arazzo }
+{
+    workflow_named(&bundle.arazzo, bundle.workflow.as_str())
+}
+
+/// The steps of the workflow that is run, in order; none where the description lacks it.
 pub fn steps(bundle: &Bundle) -> &[Json]
     ensures { result.now ≡ steps_of bundle.now bundle.now.workflow }
 {
-    match workflow_named(&bundle.arazzo, bundle.workflow.as_str()) {
+    match workflow(bundle) {
         Some(workflow) => items_at(workflow, "steps"),
         None => &[],
     }
@@ -35,38 +49,90 @@ fn workflow_named<'a>(description: &'a Json, id: &str) -> Option<&'a Json>
     workflows.iter().find(|w| text_at(w, "workflowId") == id)
 }
 
-/// The request of a step of the bundle.
-pub fn request(alloc: Global, bundle: &Bundle, step: &Json) -> Result<Request, AllocError>
-    ensures { IfOk result (λ q. q ≡ request_of bundle.now step.now) }
+/// The request of an operation with the parameters that a step gives (Arazzo 1.0.1, 4.6.5), each
+/// filled with what the scope finds and then written in the style `simple`. It is stuck by the first
+/// parameter that can't be filled or written, or where its bytes pass 1,048,576. Its values nest at
+/// most 127 deep.
+pub fn request<S: Scope>(
+    alloc: Global,
+    operation: &OperationAt,
+    step: &Json,
+    scope: &S,
+) -> Result<Request, BuildFault>
+    requires { IsWellFormed step.now }
+    ensures builds { Builds result (request_by (S.found scope.now) (seen operation.now) step.now) }
+    ensures shallow { IfOk result SendsShallow }
 {
-    let operation = operation_of(bundle, step);
+    let parameters = write_all(alloc, step, scope)?;
+    make(alloc, operation, parameters)
+}
+
+fn make(
+    alloc: Global,
+    operation: &OperationAt,
+    parameters: Vec<Written>,
+) -> Result<Request, BuildFault>
+    ensures builds { Builds result (within_limit (request_to (seen operation.now) parameters.items)) }
+    ensures shallow { IfOk result SendsShallow }
+{
+    let target = target(alloc, operation.path, parameters.as_slice())?;
+    let request = assemble(alloc, operation, target, parameters)?;
+    within(request)
+}
+
+fn assemble(
+    alloc: Global,
+    operation: &OperationAt,
+    target: Text,
+    parameters: Vec<Written>,
+) -> Result<Request, AllocError>
+    requires { target ≡ expanded parameters.items operation.now.path.now }
+    ensures request { IfOk result (λ q. q ≡ request_to (seen operation.now) parameters.items) }
+    ensures shallow { IfOk result SendsShallow }
+{
     let server = server_of(operation.url);
-    let values = sent(alloc, step)?;
-    let mut target = String::new(alloc);
-    push_expanded(&mut target, operation.path, values.as_slice())?;
     Ok(Request {
         method: upper(alloc, operation.method)?,
         server: make_server(alloc, &server)?,
-        target: Text::from_std(target),
+        target,
         headers: headers(alloc, &server)?,
         body: None,
-        values,
+        values: values(alloc, parameters)?,
         payload: None,
     })
 }
 
-fn operation_of<'a>(bundle: &'a Bundle, step: &Json) -> OperationAt<'a>
-    ensures { seen result ≡ operation_named_by bundle.now step.now }
+fn within(request: Request) -> Result<Request, BuildFault>
+    requires { SendsShallow request }
+    ensures builds { Builds result (within_limit request) }
+    ensures shallow { IfOk result SendsShallow }
 {
-    match find_operation(bundle.sources.as_slice(), text_at(step, "operationId")) {
-        Some(operation) => operation,
-        None => OperationAt {
-            path: "",
-            method: "",
-            id: "",
-            url: "",
-        },
+    if is_within_limit(&request) {
+        Ok(request)
+    } else {
+        Err(BuildFault::Stuck(Cause::RequestTooLarge))
     }
+}
+
+// The path with the texts of parameters in it, unless it is too large for any request.
+fn target(alloc: Global, path: &str, parameters: &[Written]) -> Result<Text, BuildFault>
+    ensures { FitsIn result (expanded parameters.now path.now) }
+{
+    let parameters = ByName::of(alloc, parameters)?;
+    let mut target = String::new(alloc);
+    push_expanded(&mut target, path, &parameters)?;
+    Ok(Text::from_std(target))
+}
+
+fn values(alloc: Global, parameters: Vec<Written>) -> Result<Many<Sent>, AllocError>
+    ensures values { IfOk result (λ values. values ≡ map (λ g. g.sent) parameters.items) }
+    ensures shallow { IfOk result (All (λ s. IsShallow s.value)) }
+{
+    let mut values = Vec::with_capacity(alloc, parameters.len())?;
+    for parameter in parameters {
+        values.push(parameter.into_sent())?;
+    }
+    Ok(Many::from_std(values))
 }
 
 fn server_of(url: &str) -> Authority<'_>
@@ -85,30 +151,6 @@ fn make_server(alloc: Global, authority: &Authority) -> Result<Server, AllocErro
         host: Text::from_std(String::from_str(alloc, authority.host)?),
         port: authority.port,
         base: Text::from_std(String::new(alloc)),
-    })
-}
-
-// The parameters that the step gives.
-fn sent(alloc: Global, step: &Json) -> Result<Many<Sent>, AllocError>
-    ensures { IfOk result (λ sent. sent ≡ sent_of step.now) }
-{
-    let mut sent = Vec::new(alloc);
-    for parameter in items_at(step, "parameters") {
-        sent.push(sent_from(alloc, parameter)?)?;
-    }
-    Ok(Many::from_std(sent))
-}
-
-fn sent_from(alloc: Global, parameter: &Json) -> Result<Sent, AllocError>
-    ensures { IfOk result (λ sent. sent ≡ sent_by parameter.now) }
-{
-    Ok(Sent {
-        place: Location::Path,
-        name: Text::from_std(String::from_str(alloc, text_at(parameter, "name"))?),
-        value: match parameter.get("value") {
-            Some(value) => copy(alloc, value)?,
-            None => Json::Null,
-        },
     })
 }
 

@@ -4,7 +4,7 @@ use Rattle.arz_request.proofs.paths.push_expanded.Given as goal
 
 -- what stands there and what is left make the whole
 abbrev pub invariant-parts : goal.invariant-parts
-invariant-parts l = (string_bytes l.out ++ expanded l.sent l.rest ≡ string_bytes l.initial.out ++ expanded l.sent l.path) × IsUtf8 l.rest
+invariant-parts l = (string_bytes l.out ++ expanded l.parameters l.rest ≡ string_bytes l.initial.out ++ expanded l.parameters l.path) × IsUtf8 l.rest
 
 abbrev pub decreases-parts : goal.decreases-parts
 decreases-parts l = length l.rest

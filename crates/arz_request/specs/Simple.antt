@@ -1,0 +1,56 @@
+-- What writing in a style answers.
+use Rattle.std.specs.Prelude.{◌≡◌, ℕ, Bool, true, false, List, [], ◌∷◌, ◌++◌, codes, Option, unwrap_or}
+use Rattle.std.specs.List.{flat_map}
+use Rattle.std.specs.Fmt.{signed_decimal}
+use Rattle.std.specs.declared.option.Option.TheVariants.{None, Some}
+use Rattle.std.specs.declared.result.Result.{Result}
+use Rattle.std.specs.declared.result.Result.TheVariants.{Ok, Err}
+use Rattle.arz_flow.specs.declared.answers.Cause.TheVariants as cause
+use Rattle.arz_flow.specs.Outcomes.{Made, made_of}
+use Rattle.arz_flow.specs.Styles.{escaped, flag_text}
+use Rattle.arz_flow.specs.Texts.{joined}
+use Rattle.arz_request.specs.declared.style.Scalar.{Scalar}
+use Rattle.arz_request.specs.declared.style.Scalar.TheVariants.{Flag, Int, Text}
+use Rattle.arz_request.specs.declared.style.StyleFault.{StyleFault}
+use Rattle.arz_request.specs.declared.style.StyleFault.TheVariants.{NotSerializable, FractionUsed, Memory}
+
+-- the fault is the cause why nothing is made; memory may run out in any case
+abbrev pub Fails : {X : Type 0} → StyleFault → Made X → Type 0
+Fails NotSerializable made = made ≡ Err cause.NotSerializable
+Fails FractionUsed made = made ≡ Err cause.FractionUsed
+Fails Memory made = Unit {0}
+
+-- what is made, or the fault
+abbrev pub Writes : {X : Type 0} → Result X StyleFault → Made X → Type 0
+Writes (Ok x) made = made ≡ Ok x
+Writes (Err fault) made = Fails fault made
+
+-- ---- for private clauses
+
+-- the text stands behind what was there
+abbrev pub Pushes : {X : Type 0} → List ℕ → List ℕ → Result X StyleFault → Made (List ℕ) → Type 0
+Pushes old new (Ok x) made = made_of (λ text. old ++ text) made ≡ Ok new
+Pushes old new (Err fault) made = Fails fault made
+
+abbrev pub scalar_text : Scalar → List ℕ
+scalar_text (Flag b) = flag_text b
+scalar_text (Int z) = signed_decimal z
+scalar_text (Text s) = escaped s.now
+
+-- the part of a list or an object
+abbrev pub IsPart : Result (Option Scalar) StyleFault → Made (Option (List ℕ)) → Type 0
+IsPart (Ok None) made = made ≡ Ok None
+IsPart (Ok (Some scalar)) made = made ≡ Ok (Some (scalar_text scalar))
+IsPart (Err fault) made = Fails fault made
+
+-- a null that stands alone has no bytes
+abbrev pub alone : Made (Option (List ℕ)) → Made (List ℕ)
+alone made = made_of (λ text. unwrap_or text []) made
+
+abbrev pub joined_texts : Made (List (List ℕ)) → Made (List ℕ)
+joined_texts texts = made_of (joined (codes ",")) texts
+
+-- the comma behind what stands there already
+abbrev pub separator : Bool → List ℕ
+separator true = codes ","
+separator false = []
