@@ -1,0 +1,5 @@
+pub mod Depths
+pub mod FieldLemmas
+pub mod LineLemmas
+pub mod OutputLemmas
+pub mod TextLemmas

@@ -1,0 +1,5 @@
+pub mod Fields
+pub mod Kinds
+pub mod Prepared
+pub mod Sources
+pub mod Speaking

@@ -1,0 +1,16 @@
+//! What the expressions of a run speak of: the run's inputs, the outputs of its steps, and the request
+//! and reply of an attempt (Arazzo 1.0.1, section 4.7); and the outputs that they give.
+#![tactic(auto)]
+
+mod bodies;
+mod exchange;
+mod fields;
+mod lookups;
+mod output_values;
+mod run_scope;
+#[cfg(test)]
+mod tests;
+
+pub use exchange::Exchange;
+pub use output_values::{any_opaque, outputs};
+pub use run_scope::RunScope;
