@@ -1,0 +1,12 @@
+use Rattle.std.proofs.Common.{sym, ap, ◌∙◌}
+use Rattle.std.specs.List.{list_all}
+use Rattle.arz_bundle.specs.Forms.{is_given}
+use Rattle.arz_bundle.specs.FormWords.{is_path_byte}
+use Rattle.arz_bundle.proofs.FormPaths.{given-bytes}
+use Rattle.arz_bundle.proofs.forms.paths.is_filled_by.Goals as goal
+
+pub returns : goal.returns
+returns c =
+    c.are_path_bytes.ensures
+    ∙ ap (list_all is_path_byte) c.as_bytes.ensures.value
+    ∙ sym (c.cuts.invariant.0 ∙ ap (list_all (is_given c.args.parameters.now)) c.in_default.ensures.parts ∙ given-bytes c.args.parameters.now c.cuts.rest.now)

@@ -1,0 +1,10 @@
+pub mod FileTree
+pub mod FormNames
+pub mod FormTexts
+pub mod FormValues
+pub mod FormWords
+pub mod Forms
+pub mod Loading
+pub mod Printable
+pub mod Replies
+pub mod Standing

@@ -1,0 +1,87 @@
+// The operations that steps call (Arazzo 1.0.1, 4.6.5: `operationId`), found by a map.
+ghost use Rattle.std.specs.Prelude.{◌≡◌, ℕ, List, [], None, codes, unwrap_or, if◌then◌else◌, IfOk, OnOk};
+ghost use Rattle.std.specs.Str.{bytes_eq};
+ghost use Rattle.arz_json.specs.Look.{object_in};
+ghost use Rattle.arz_flow.specs.Documents.{operations_under, operations_in, operation_at, url_of, text_at as text_under};
+ghost use Rattle.arz_bundle.specs.Forms.{is_callable as callable};
+ghost use Rattle.arz_bundle.specs.Standing.{noted, noted_all, told};
+
+use crate::forms::paths::is_filled_by;
+use arz_flow::{items_at, members_at, text_at};
+use arz_json::{Json, Member};
+use std::alloc::{AllocError, Global};
+use std::collections::BTreeMap;
+
+// A path item, and the operation under it.
+type Place<'a> = (&'a Member, &'a Member);
+
+// By operationId the operation that alone has it, or nothing where several have it.
+type Places<'a> = BTreeMap<&'a str, Option<Place<'a>>>;
+
+/// The operations of a source document by their operationIds.
+#[derive(Drop)]
+pub(crate) struct Operations<'a> {
+    root: &'a Json,
+    places: Places<'a>,
+    ghost right: { (id : List ℕ) → told (url_of root.now) places id ≡ noted_all id None (operations_in root.now) },
+}
+
+impl<'a> Operations<'a> {
+    ghost use Rattle.arz_bundle.specs.Forms.{has_operation as operation_for};
+
+    /// The operations of a document.
+    pub fn of(alloc: Global, root: &'a Json) -> Result<Operations<'a>, AllocError>
+        ensures { IfOk result (λ operations. operations.root.now ≡ root.now) }
+    {
+        let mut places = BTreeMap::new(alloc);
+        for item in members_at(root, "paths") {
+            note_all(&mut places, item)?;
+        }
+        Ok(Operations { root, places })
+    }
+
+    /// Whether exactly one operation of the document has the step's operationId, and the step may call it.
+    pub fn has_operation(&self, step: &Json) -> bool
+        ensures { result ≡ operation_for self.now.root.now step.now }
+    {
+        match self.places.get(text_at(step, "operationId")) {
+            Some(Some((item, member))) => is_callable(
+                step,
+                item.name.as_str(),
+                member.name.as_str(),
+            ),
+            Some(None) => false,
+            None => false,
+        }
+    }
+}
+
+// Notes the operations of a path item.
+fn note_all<'a>(places: &mut Places<'a>, item: &'a Member) -> Result<(), AllocError>
+    ensures { OnOk result ((url id : List ℕ) → told url places.new id ≡ noted_all id (told url places.old id) (operations_under url item.now)) }
+{
+    for member in item.value.as_object().unwrap_or(&[]) {
+        note(places, item, member)?;
+    }
+    Ok(())
+}
+
+// Notes one operation: it alone has its operationId so far, or several have it.
+fn note<'a>(places: &mut Places<'a>, item: &'a Member, member: &'a Member) -> Result<(), AllocError>
+    ensures { OnOk result ((url id : List ℕ) → told url places.new id
+        ≡ (if bytes_eq (text_under (codes "operationId") member.now.value) id
+        then noted (told url places.old id) (operation_at url item.now.name member.now) else told url places.old id)) }
+{
+    let id = text_at(&member.value, "operationId");
+    let old = places.insert(id, Some((item, member)))?;
+    if old.is_some() {
+        places.insert(id, None)?;
+    }
+    Ok(())
+}
+
+fn is_callable(step: &Json, path: &str, method: &str) -> bool
+    ensures { (url id : List ℕ) → result ≡ callable step.now (record { path = path.now; method = method.now; id = id; url = url }) }
+{
+    method == "get" && is_filled_by(path, items_at(step, "parameters"))
+}

@@ -1,0 +1,48 @@
+// What a path needs of a step's parameters (OpenAPI 3.1.1, 4.8.8.2).
+ghost use Rattle.std.specs.Prelude.{◌≡◌};
+ghost use Rattle.std.specs.List.{list_all};
+ghost use Rattle.arz_flow.specs.Paths.{parts};
+ghost use Rattle.arz_request.specs.Cut.{parts_to};
+ghost use Rattle.arz_bundle.specs.Forms.{is_given};
+ghost use Rattle.arz_bundle.specs.FormWords.{is_path_byte as path_byte};
+
+use crate::forms::names::are_named;
+use crate::forms::words::is_plain_byte;
+use arz_json::Json;
+use arz_request::{Cut, next_cut};
+
+/// Whether each `{name}` of the path is the name of a parameter, and each other byte is `/` or one of
+/// `A-Z a-z 0-9 - . _ ~`.
+pub(crate) fn is_filled_by(path: &str, parameters: &[Json]) -> bool
+    ensures { result ≡ list_all (is_given parameters.now) (parts path.now) }
+{
+    let mut rest = path;
+    'cuts: while let Some(cut) = next_cut(rest) {
+        if !is_cut_filled_by(cut, parameters) {
+            return false;
+        }
+        rest = cut.rest;
+    }
+    are_path_bytes(rest.as_bytes())
+}
+
+fn is_cut_filled_by(cut: Cut, parameters: &[Json]) -> bool
+    ensures { result ≡ list_all (is_given parameters.now) (parts_to cut.entry) }
+{
+    match cut.name {
+        Some(name) => are_path_bytes(cut.plain.as_bytes()) && are_named(parameters, "name", name),
+        None => false,
+    }
+}
+
+fn are_path_bytes(bytes: &[u8]) -> bool
+    ensures { result ≡ list_all path_byte bytes.now }
+{
+    bytes.iter().all(|byte| is_path_byte(*byte))
+}
+
+fn is_path_byte(byte: u8) -> bool
+    ensures { result ≡ path_byte byte }
+{
+    byte == b'/' || is_plain_byte(byte)
+}
