@@ -1,0 +1,4 @@
+pub mod Turning
+pub mod MachineAt
+mod Facts
+mod Entering

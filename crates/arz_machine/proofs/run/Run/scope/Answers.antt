@@ -1,0 +1,7 @@
+use Rattle.std.proofs.Common.{sym, subst}
+use Rattle.arz_flow.specs.Shallow.{AreShallow}
+use Rattle.arz_machine.proofs.Facts.{shallow_members}
+use Rattle.arz_machine.proofs.run.Run.scope.Goals as goal
+
+pub new-requires-clause-inputs : goal.new-requires-clause-inputs
+new-requires-clause-inputs c = subst AreShallow (sym c.as_slice-inputs.ensures) (shallow_members c.args.self.now.bundle.now.inputs c.args.self.now.valid.inputs)

@@ -1,0 +1,5 @@
+pub mod States
+pub mod Plain
+pub mod Resting
+pub mod Rests
+pub mod At

@@ -1,0 +1,22 @@
+-- Outputs that have a compact text.
+use Rattle.std.specs.Prelude.{◌&&◌, nat_le, not, Bool, true, List}
+use Rattle.arz_json.specs.Tree.{has_form, depth, max_depth, has_opaque}
+use Rattle.arz_json.specs.declared.Json.TheVariants.{Object}
+use Rattle.arz_json.specs.declared.Member.{Member}
+use Rattle.arz_flow.specs.declared.answers.End.{End}
+use Rattle.arz_flow.specs.declared.answers.End.TheVariants.{Completed, Broke, Out, Stuck}
+use Rattle.arz_machine.specs.States.{Rest, Sends, Ended}
+
+-- the object of these members is well-formed, and no number with a fraction is inside
+abbrev pub are_plain : List Member → Bool
+are_plain members = has_form (Object members) && nat_le (depth (Object members)) max_depth && not (has_opaque (Object members))
+
+abbrev pub has_plain_outputs : End → Bool
+has_plain_outputs (Completed outputs) = are_plain outputs
+has_plain_outputs (Broke outputs) = are_plain outputs
+has_plain_outputs (Out ask) = true
+has_plain_outputs (Stuck cause at) = true
+
+abbrev pub is_plain : Rest → Bool
+is_plain (Sends q) = true
+is_plain (Ended e) = has_plain_outputs e

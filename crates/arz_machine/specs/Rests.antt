@@ -1,0 +1,52 @@
+-- Where an execution rests.
+use Rattle.std.specs.Prelude.{ℕ, ◌≡◌, true, false, Bool, List, [], ◌∷◌, slice_get, Option, Some, None}
+use Rattle.arz_json.specs.declared.Json.{Json}
+use Rattle.arz_world.specs.declared.Request.{Request}
+use Rattle.arz_flow.specs.declared.answers.Answer.{Answer}
+use Rattle.arz_flow.specs.declared.answers.End.{End}
+use Rattle.arz_flow.specs.declared.answers.End.TheVariants.{Completed, Broke, Out, Stuck}
+use Rattle.arz_flow.specs.declared.bundle.Bundle.{Bundle}
+use Rattle.arz_flow.specs.declared.facts.Fact.{Fact}
+use Rattle.arz_flow.specs.Documents.{steps_of}
+use Rattle.arz_flow.specs.Play.{Sends as SendsNext}
+use Rattle.arz_flow.specs.Cases.{after_run, after_reply}
+use Rattle.arz_flow.specs.Executions.{fits, end, Fitting}
+use Rattle.arz_flow.specs.Stands.{Follow, Past, Stands}
+use Rattle.arz_machine.specs.States.{Rest, Sends, Ended, run_of}
+
+-- the run that is open
+abbrev pub open_runs : Bundle → List Follow
+open_runs b = after_run b.workflow b.inputs ∷ []
+
+-- the execution waits for the reply to a step's request, after these facts
+pub record IsSending (b : Bundle) (facts : List Fact) (i : ℕ) (q : Request) (r : List Answer) : Type 0 where
+  pub step : Json
+  pub there : slice_get (steps_of b b.workflow) i ≡ Some step
+  pub past : Past
+  pub fresh : past.done ≡ []
+  pub stands : Stands b (SendsNext q (after_reply b (run_of b facts) i step q)) (open_runs b) past r
+
+-- the end lacks an answer
+abbrev pub lacks_answer : End → Bool
+lacks_answer (Out q) = true
+lacks_answer (Completed outputs) = false
+lacks_answer (Broke outputs) = false
+lacks_answer (Stuck cause at) = false
+
+-- the execution has ended
+pub record IsOver (b : Bundle) (e : End) (r : List Answer) : Type 0 where
+  pub fitting : Fitting b r
+  pub end : end b r ≡ Some e
+  pub settled : lacks_answer e ≡ false
+
+abbrev pub Rests : Bundle → List Fact → (step : ℕ) → Rest → List Answer → Type 0
+Rests b facts i (Sends q) r = IsSending b facts i q r
+Rests b facts i (Ended e) r = IsOver b e r
+
+-- whether the end lacks an answer like this one
+abbrev pub takes : Option End → Answer → Bool
+takes None a = false
+takes (Some (Completed outputs)) a = false
+takes (Some (Broke outputs)) a = false
+takes (Some (Stuck cause at)) a = false
+takes (Some (Out q)) a = fits q a

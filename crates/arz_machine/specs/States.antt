@@ -1,0 +1,57 @@
+-- Where an execution rests next.
+use Rattle.std.specs.Prelude.{ℕ, nat_lt, Bool, true, false, List, []}
+use Rattle.std.specs.declared.option.Option.{Option}
+use Rattle.std.specs.declared.option.Option.TheVariants.{None, Some}
+use Rattle.std.specs.declared.result.Result.TheVariants.{Ok, Err}
+use Rattle.arz_json.specs.declared.Json.{Json}
+use Rattle.arz_world.specs.declared.Reply.{Reply}
+use Rattle.arz_world.specs.declared.Request.{Request}
+use Rattle.arz_flow.specs.declared.answers.End.TheVariants.{Stuck}
+use Rattle.arz_flow.specs.declared.answers.Spot.{Spot}
+use Rattle.arz_flow.specs.declared.bundle.Bundle.{Bundle}
+use Rattle.arz_flow.specs.declared.facts.Fact.{Fact}
+use Rattle.arz_flow.specs.Cases.{Run, surroundings, spot, fact_of, result, outputs_at_end}
+use Rattle.arz_flow.specs.Executions.{end_of_result}
+use Rattle.arz_flow.specs.Outcomes.{Made}
+use Rattle.arz_flow.specs.Requests.{request_of}
+use Rattle.arz_flow.specs.Scopes.{Nothing, found}
+use Rattle.arz_flow.specs.declared.answers.End.{End}
+
+-- where an execution rests: a request is to be sent, or it has ended
+pub data Rest : Type 0 where
+  Sends : Request → Rest
+  Ended : End → Rest
+
+-- where a step's request is to be sent there is such a step
+abbrev pub has_step : Rest → (step count : ℕ) → Bool
+has_step (Sends q) step count = nat_lt step count
+has_step (Ended e) step count = true
+
+-- the run of the starting workflow, after these facts
+abbrev pub run_of : Bundle → List Fact → Run
+run_of b facts = record { workflow = b.workflow; inputs = b.inputs; facts = facts }
+
+-- a request that is to be sent, or the end at this place
+abbrev pub rest_by : Made Request → Spot → Rest
+rest_by (Ok q) at = Sends q
+rest_by (Err cause) at = Ended (Stuck cause at)
+
+-- the request of a step that is entered after these facts
+abbrev pub request_in : Bundle → List Fact → Json → Made Request
+request_in b facts step = request_of b (found (surroundings b (run_of b facts) []) Nothing) step
+
+abbrev pub entered : Bundle → List Fact → Json → Rest
+entered b facts step = rest_by (request_in b facts step) (spot (run_of b facts) step)
+
+-- the fact of an attempt after these facts
+abbrev pub next_fact : Bundle → List Fact → Json → Request → Reply → Fact
+next_fact b facts step q y = fact_of b (run_of b facts) [] step q y
+
+abbrev pub closed : Bundle → List Fact → Bool → Rest
+closed b facts ok = Ended (end_of_result b.workflow (result ok (outputs_at_end b (run_of b facts) [])))
+
+-- after an attempt: the next step, if the attempt succeeded and there is one, else the end of the run
+abbrev pub goes_to : Bundle → List Fact → Bool → Option Json → Rest
+goes_to b facts true (Some step) = entered b facts step
+goes_to b facts true None = closed b facts true
+goes_to b facts false o = closed b facts false

@@ -1,0 +1,42 @@
+// The machine: it makes the requests of a workflow, and is told the answers.
+ghost use Rattle.std.specs.Prelude.{◌≡◌, ◌≤◌, length, true};
+ghost use Rattle.arz_machine.specs.Plain.{is_plain};
+ghost use Rattle.arz_machine.specs.Resting.{rest_of};
+ghost use Rattle.arz_machine.specs.States.{has_step};
+
+use crate::run::Run;
+use crate::state::State;
+use arz_flow::End;
+use arz_world::Request;
+
+/// What an execution over the answers so far comes to.
+pub enum Next<'a> {
+    /// This request is to be sent, and its reply told.
+    Send(&'a Request),
+    /// The execution has ended.
+    Ended(&'a End),
+}
+
+/// Why an answer was refused.
+#[derive(Clone, Copy, Debug, PartialEq, Eq)]
+pub enum MachineFault {
+    /// It is of another kind than what is asked, or nothing is asked.
+    WrongKind,
+    /// Memory ran out.
+    Memory,
+}
+
+/// An execution of a bundle's starting workflow (Arazzo 1.0.1, 4.6.4), step by step. It rests at the
+/// send of a step, or at its end.
+#[derive(Drop)]
+pub struct Machine<'a> {
+    /// What the attempts so far have made.
+    pub(crate) run: Run<'a>,
+    /// The index of the step whose request is to be sent. It counts the answers.
+    pub(crate) step: usize,
+    /// Where the execution rests.
+    pub(crate) state: State,
+    ghost counted: { step ≤ length run.steps.now },
+    ghost inside: { has_step (rest_of state) step (length run.steps.now) ≡ true },
+    ghost plain: { is_plain (rest_of state) ≡ true },
+}

@@ -1,0 +1,177 @@
+// The turns of a run: a step is entered, an attempt leaves its fact, the run is closed.
+ghost use Rattle.std.specs.Prelude.{◌≡◌, ℕ, ◌+◌, ◌<◌, ◌++◌, ◌∷◌, [], length, slice_get, true, IfOk, OnOk, OnErr, Some};
+ghost use Rattle.std.specs.Option.{option_copied};
+ghost use Rattle.arz_json.specs.declared.Json.{Json};
+ghost use Rattle.arz_json.specs.Tree.{IsWellFormed};
+ghost use Rattle.arz_flow.specs.Cases.{spot as spot_of, outputs_at_end};
+ghost use Rattle.arz_flow.specs.Shallow.{AreShallow};
+ghost use Rattle.arz_flow.specs.Valid.{IsValid};
+ghost use Rattle.arz_machine.specs.Plain.{is_plain};
+ghost use Rattle.arz_machine.specs.Resting.{rest_of};
+ghost use Rattle.arz_machine.specs.States.{has_step, run_of, entered, closed, goes_to, next_fact};
+
+use crate::run::Run;
+use crate::state::{Ready, State};
+use arz_flow::{Bundle, Cause, End, Fact, Spot, text_at};
+use arz_json::{Json, Many, Members, Text};
+use arz_request::{BuildFault, Operations, request, steps, workflow};
+use arz_scope::{Exchange, RunScope, any_opaque, outputs};
+use arz_world::Reply;
+use std::alloc::{AllocError, Global};
+
+impl<'a> Run<'a> {
+    /// A run before its first step.
+    pub fn begin(alloc: Global, bundle: &'a Bundle) -> Result<Run<'a>, AllocError>
+        requires { IsValid bundle.now }
+        ensures bundle { IfOk result (λ run. run.bundle.now ≡ bundle.now) }
+        ensures facts { IfOk result (λ run. run.facts ≡ []) }
+    {
+        Ok(Run {
+            alloc,
+            bundle,
+            steps: steps(bundle),
+            operations: Operations::of(alloc, bundle.sources.as_slice())?,
+            facts: Many::new(alloc),
+        })
+    }
+
+    /// Enters the step at this index, and gives where the execution rests then.
+    pub fn enter(&self, index: usize) -> Result<State, AllocError>
+        requires { index < length self.now.steps.now }
+        ensures entered { IfOk result (λ state. (step : Json) → slice_get self.now.steps.now index ≡ Some step
+            → rest_of state ≡ entered self.now.bundle.now self.now.facts step) }
+        ensures inside { IfOk result (λ state. has_step (rest_of state) index (length self.now.steps.now) ≡ true) }
+        ensures plain { IfOk result (λ state. is_plain (rest_of state) ≡ true) }
+    {
+        let step = &self.steps[index];
+        let scope = self.scope(None)?;
+        let operation = self.operations.operation_of(step);
+        match request(self.alloc, &operation, step, &scope) {
+            Ok(request) => Ok(State::Sends(Ready { request })),
+            Err(BuildFault::Stuck(cause)) => Ok(State::Ended(End::Stuck(cause, self.spot(step)?))),
+            Err(BuildFault::Memory) => Err(AllocError),
+        }
+    }
+
+    /// The fact of an attempt of the step at this index.
+    pub fn fact(&self, index: usize, ready: &Ready, reply: &Reply) -> Result<Fact, AllocError>
+        requires { index < length self.now.steps.now }
+        ensures fact { IfOk result (λ fact. (step : Json) → slice_get self.now.steps.now index ≡ Some step
+            → fact ≡ next_fact self.now.bundle.now self.now.facts step ready.now.request reply.now) }
+        ensures shallow { IfOk result (λ fact. AreShallow fact.outputs) }
+    {
+        let step = &self.steps[index];
+        let exchange = Exchange::new(self.alloc, &ready.request, reply)?;
+        let scope = self.scope(Some(&exchange))?;
+        let outputs = outputs(self.alloc, step, &scope)?;
+        Ok(Fact {
+            step: text(self.alloc, text_at(step, "stepId"))?,
+            outputs,
+        })
+    }
+
+    /// Adds the fact of an attempt of the step at this index, and gives where the execution rests then.
+    /// Where memory runs out the run is as before.
+    pub fn go_on(&mut self, fact: Fact, index: usize, succeeded: bool) -> Result<State, AllocError>
+        requires index { index < length self.old.steps.now }
+        requires fact { AreShallow fact.outputs }
+        ensures bundle { self.new.bundle ≡ self.old.bundle }
+        ensures steps { self.new.steps ≡ self.old.steps }
+        ensures facts { OnOk result (self.new.facts ≡ self.old.facts ++ fact ∷ []) }
+        ensures refused { OnErr result (self.new.facts ≡ self.old.facts) }
+        ensures state { IfOk result (λ state. rest_of state ≡ goes_to self.old.bundle.now (self.old.facts ++ fact ∷ []) succeeded
+            (slice_get self.old.steps.now (index + 1))) }
+        ensures inside { IfOk result (λ state. has_step (rest_of state) (index + 1) (length self.old.steps.now) ≡ true) }
+        ensures plain { IfOk result (λ state. is_plain (rest_of state) ≡ true) }
+    {
+        self.facts.push(fact)?;
+        let next = self.after(index, succeeded);
+        if next.is_err() {
+            self.facts.pop();
+        }
+        next
+    }
+
+    // Where the execution rests after the attempt of the step at this index.
+    fn after(&self, index: usize, succeeded: bool) -> Result<State, AllocError>
+        requires { index < length self.now.steps.now }
+        ensures state { IfOk result (λ state. rest_of state ≡ goes_to self.now.bundle.now self.now.facts succeeded (slice_get self.now.steps.now (index + 1))) }
+        ensures inside { IfOk result (λ state. has_step (rest_of state) (index + 1) (length self.now.steps.now) ≡ true) }
+        ensures plain { IfOk result (λ state. is_plain (rest_of state) ≡ true) }
+    {
+        if succeeded && index + 1 < self.steps.len() {
+            return self.enter(index + 1);
+        }
+        self.close(succeeded)
+    }
+
+    // Closes the run: its end, with the outputs of the workflow.
+    fn close(&self, succeeded: bool) -> Result<State, AllocError>
+        ensures state { IfOk result (λ state. rest_of state ≡ closed self.now.bundle.now self.now.facts succeeded) }
+        ensures inside { IfOk result (λ state. (step count : ℕ) → has_step (rest_of state) step count ≡ true) }
+        ensures plain { IfOk result (λ state. is_plain (rest_of state) ≡ true) }
+    {
+        let outputs = self.outputs()?;
+        if any_opaque(outputs.as_slice()) {
+            let workflow = text(self.alloc, self.bundle.workflow.as_str())?;
+            let spot = Spot {
+                workflow,
+                step: None,
+            };
+            return Ok(State::Ended(End::Stuck(Cause::FractionUsed, spot)));
+        }
+        Ok(State::Ended(if succeeded {
+            End::Completed(outputs)
+        } else {
+            End::Broke(outputs)
+        }))
+    }
+
+    // The outputs of the workflow.
+    fn outputs(&self) -> Result<Members, AllocError>
+        ensures value { IfOk result (λ given. given ≡ outputs_at_end self.now.bundle.now (run_of self.now.bundle.now self.now.facts) []) }
+        ensures well_formed { IfOk result (λ given. IsWellFormed (Json.Object given)) }
+    {
+        let Some(workflow) = workflow(self.bundle) else {
+            return Ok(Many::new(self.alloc));
+        };
+        let scope = self.scope(None)?;
+        outputs(self.alloc, workflow, &scope)
+    }
+
+    // What the run's expressions speak of.
+    fn scope<'s>(&'s self, exchange: Option<&'s Exchange<'s>>) -> Result<RunScope<'s>, AllocError>
+        ensures { IfOk result (λ s. s ≡ record {
+          description = self.now.bundle.now.arazzo;
+          inputs = self.now.bundle.now.inputs;
+          facts = self.now.facts;
+          exchange = option_copied exchange.entry;
+        }) }
+    {
+        let bundle = self.bundle;
+        let inputs = bundle.inputs.as_slice();
+        RunScope::new(
+            self.alloc,
+            &bundle.arazzo,
+            inputs,
+            self.facts.as_slice(),
+            exchange,
+        )
+    }
+
+    // The place of a step.
+    fn spot(&self, step: &Json) -> Result<Spot, AllocError>
+        ensures { IfOk result (λ spot. spot ≡ spot_of (run_of self.now.bundle.now self.now.facts) step.now) }
+    {
+        Ok(Spot {
+            workflow: text(self.alloc, self.bundle.workflow.as_str())?,
+            step: Some(text(self.alloc, text_at(step, "stepId"))?),
+        })
+    }
+}
+
+fn text(alloc: Global, bytes: &str) -> Result<Text, AllocError>
+    ensures { IfOk result (λ text. text ≡ bytes.now) }
+{
+    Ok(Text::from_std(String::from_str(alloc, bytes)?))
+}
