@@ -1,0 +1,8 @@
+//! Sessions: runs of a workflow over given replies.
+#![tactic(auto)]
+
+mod over_replies;
+mod session;
+
+pub use over_replies::mock;
+pub use session::{How, Line, Session};
