@@ -1,8 +1,3 @@
-pub mod Files
-pub mod FirstFormFacts
-pub mod FirstFormPaths
-pub mod Mocking
+pub mod Loaded
 pub mod Printed
 pub mod RowsOf
-pub mod Stages
-pub mod Turns

@@ -1,41 +1,61 @@
 -- The rows follow from how a call ends.
-use Rattle.std.proofs.Common.{◌≡◌, ◌≢◌, ◌⊎◌, inl, inr, ◌++◌, ℕ, List, codes, refl, sym, ◌∙◌, ap, arith, subst, Bool, true}
-use Rattle.arz_json.specs.declared.Json.{Json}
+use Rattle.std.proofs.Common.{◌≡◌, ◌≢◌, ◌⊎◌, inl, inr, ◌++◌, ℕ, List, codes, refl, sym, ◌∙◌, ap, arith, subst, Result, Ok, Err}
 use Rattle.arz_json.specs.declared.Member.{Member}
 use Rattle.arz_json.specs.declared.Refusal.{Refusal}
 use Rattle.arz_world.specs.Outside.{Gains, Rose, FilesView, SinkView}
 use Rattle.arz_world.specs.declared.Reply.{Reply}
 use Rattle.arz_flow.specs.declared.answers.Ask.{Ask}
+use Rattle.arz_flow.specs.declared.answers.Cause.{Cause}
+use Rattle.arz_flow.specs.declared.answers.Spot.{Spot}
 use Rattle.arz_flow.specs.declared.answers.End.{End}
-use Rattle.arz_flow.specs.declared.answers.End.TheVariants.{Completed, Out}
+use Rattle.arz_flow.specs.declared.answers.End.TheVariants.{Completed, Broke, Out, Stuck}
 use Rattle.arz_flow.specs.declared.bundle.Bundle.{Bundle}
+use Rattle.arz_bundle.specs.declared.fault.LoadFault.{LoadFault}
+use Rattle.arz_bundle.specs.declared.fault.LoadFault.TheVariants.{File as FileFault, Refused as RefusedFault, Memory}
+use Rattle.arz_bundle.specs.Loading.{Loads, Gives_replies}
+use Rattle.arz_bundle.proofs.Stages.{loads-file, replies-file}
 use Rattle.arz_top.specs.declared.words.Command.{Command}
 use Rattle.arz_top.specs.declared.words.Command.TheVariants.{Mock, Unknown}
-use Rattle.arz_top.specs.declared.session.Session.{Session}
+use Rattle.arz_session.specs.declared.session.Session.{Session}
 use Rattle.arz_top.specs.declared.ending.Ending.{Ending}
 use Rattle.arz_top.specs.declared.ending.Ending.TheVariants.{Words, File, Refused, Played}
-use Rattle.arz_top.specs.FirstForm.{is_setup, is_description, is_source, are_replies}
-use Rattle.arz_top.specs.Loading.{description_path, source_name, source_path, bundle_of, replies_of, not_built, Reading, Plays, FromReplies, FromSource, FromDescription, Mocks, Comes}
+use Rattle.arz_top.specs.Endings.{Faulted, Plays, FromBundle, Mocks, Comes}
 use Rattle.arz_top.specs.Report.{line, report, status, end_status, refusal_line}
 use Rattle.arz_top.specs.Ends.{Ends, Whole, Cut, RanOut}
 use Rattle.arz_top.specs.Rows.{Rows}
 
 -- ---- which ending has which status
 
+-- an end has one of these statuses
+not : (x : End) (n : ℕ) → (0 ≡ n → ⊥) → (1 ≡ n → ⊥) → (7 ≡ n → ⊥) → (14 ≡ n → ⊥) → end_status x ≡ n → ⊥
+not (Completed outputs) n a b c d st = a st
+not (Broke outputs) n a b c d st = b st
+not (Stuck cause at) n a b c d st = c st
+not (Out ask) n a b c d st = d st
+
 ended-0 : (s : Session) (x : End) → s.end ≡ x → end_status x ≡ 0 → (outputs : List Member) × (s.end ≡ Completed outputs)
 ended-0 s (Completed outputs) is st = (outputs, is)
+ended-0 s (Broke outputs) is st = absurd (omega (arith, st))
+ended-0 s (Stuck cause at) is st = absurd (omega (arith, st))
 ended-0 s (Out ask) is st = absurd (omega (arith, st))
+
+ended-1 : (s : Session) (x : End) → s.end ≡ x → end_status x ≡ 1 → (outputs : List Member) × (s.end ≡ Broke outputs)
+ended-1 s (Completed outputs) is st = absurd (omega (arith, st))
+ended-1 s (Broke outputs) is st = (outputs, is)
+ended-1 s (Stuck cause at) is st = absurd (omega (arith, st))
+ended-1 s (Out ask) is st = absurd (omega (arith, st))
+
+ended-7 : (s : Session) (x : End) → s.end ≡ x → end_status x ≡ 7 → (cause : Cause) × (at : Spot) × (s.end ≡ Stuck cause at)
+ended-7 s (Completed outputs) is st = absurd (omega (arith, st))
+ended-7 s (Broke outputs) is st = absurd (omega (arith, st))
+ended-7 s (Stuck cause at) is st = (cause, at, is)
+ended-7 s (Out ask) is st = absurd (omega (arith, st))
 
 ended-14 : (s : Session) (x : End) → s.end ≡ x → end_status x ≡ 14 → (ask : Ask) × (s.end ≡ Out ask)
 ended-14 s (Completed outputs) is st = absurd (omega (arith, st))
+ended-14 s (Broke outputs) is st = absurd (omega (arith, st))
+ended-14 s (Stuck cause at) is st = absurd (omega (arith, st))
 ended-14 s (Out ask) is st = (ask, is)
-
-ended : (x : End) → (end_status x ≡ 0) ⊎ (end_status x ≡ 14)
-ended (Completed outputs) = inl refl
-ended (Out ask) = inr refl
-
-not : (x : End) (n : ℕ) → (0 ≡ n → ⊥) → (14 ≡ n → ⊥) → end_status x ≡ n → ⊥
-not x n a b st = elim (ended x) [ inl e ↦ a (sym e ∙ st) | inr e ↦ b (sym e ∙ st) ]
 
 at-0 : (e : Ending) → status e ≡ 0 → (s : Session) × (outputs : List Member) × (e ≡ Played s) × (s.end ≡ Completed outputs)
 at-0 Words st = absurd (omega (arith, st))
@@ -43,17 +63,29 @@ at-0 (File path) st = absurd (omega (arith, st))
 at-0 (Refused refusal) st = absurd (omega (arith, st))
 at-0 (Played s) st = let o = ended-0 s s.end refl st in (s, o.0, refl, o.1)
 
+at-1 : (e : Ending) → status e ≡ 1 → (s : Session) × (outputs : List Member) × (e ≡ Played s) × (s.end ≡ Broke outputs)
+at-1 Words st = absurd (omega (arith, st))
+at-1 (File path) st = absurd (omega (arith, st))
+at-1 (Refused refusal) st = absurd (omega (arith, st))
+at-1 (Played s) st = let o = ended-1 s s.end refl st in (s, o.0, refl, o.1)
+
+at-7 : (e : Ending) → status e ≡ 7 → (s : Session) × (cause : Cause) × (at : Spot) × (e ≡ Played s) × (s.end ≡ Stuck cause at)
+at-7 Words st = absurd (omega (arith, st))
+at-7 (File path) st = absurd (omega (arith, st))
+at-7 (Refused refusal) st = absurd (omega (arith, st))
+at-7 (Played s) st = let o = ended-7 s s.end refl st in (s, o.0, o.1, refl, o.2)
+
 at-3 : (e : Ending) → status e ≡ 3 → (refusal : Refusal) × (e ≡ Refused refusal)
 at-3 Words st = absurd (omega (arith, st))
 at-3 (File path) st = absurd (omega (arith, st))
 at-3 (Refused refusal) st = (refusal, refl)
-at-3 (Played s) st = absurd (not s.end 3 (λ h. omega (arith, h)) (λ h. omega (arith, h)) st)
+at-3 (Played s) st = absurd (not s.end 3 (λ h. omega (arith, h)) (λ h. omega (arith, h)) (λ h. omega (arith, h)) (λ h. omega (arith, h)) st)
 
 at-13 : (e : Ending) → status e ≡ 13 → (path : List ℕ) × (e ≡ File path)
 at-13 Words st = absurd (omega (arith, st))
 at-13 (File path) st = (path, refl)
 at-13 (Refused refusal) st = absurd (omega (arith, st))
-at-13 (Played s) st = absurd (not s.end 13 (λ h. omega (arith, h)) (λ h. omega (arith, h)) st)
+at-13 (Played s) st = absurd (not s.end 13 (λ h. omega (arith, h)) (λ h. omega (arith, h)) (λ h. omega (arith, h)) (λ h. omega (arith, h)) st)
 
 at-14 : (e : Ending) → status e ≡ 14 → (s : Session) × (ask : Ask) × (e ≡ Played s) × (s.end ≡ Out ask)
 at-14 Words st = absurd (omega (arith, st))
@@ -66,7 +98,7 @@ never-10 : (e : Ending) → status e ≡ 10 → ⊥
 never-10 Words st = omega (arith, st)
 never-10 (File path) st = omega (arith, st)
 never-10 (Refused refusal) st = omega (arith, st)
-never-10 (Played s) st = not s.end 10 (λ h. omega (arith, h)) (λ h. omega (arith, h)) st
+never-10 (Played s) st = not s.end 10 (λ h. omega (arith, h)) (λ h. omega (arith, h)) (λ h. omega (arith, h)) (λ h. omega (arith, h)) st
 
 -- ---- what a command comes to
 
@@ -78,37 +110,31 @@ module _ (files files_now : FilesView) where
   Caused (Refused refusal) = Unit {0}
   Caused (Played session) = Unit {0}
 
-  caused-Reading : (path label : List ℕ) (is_form : Json → Bool) (next : Json → Ending → Type 0) (e : Ending)
-      → ((tree : Json) → next tree e → Caused e) → Reading files files_now path label is_form next e → Caused e
-  caused-Reading path label is_form next e w (inl (bytes, reads, inl (tree, file, form, goes))) = w tree goes
-  caused-Reading path label is_form next e w (inl (bytes, reads, inr (none, is))) = subst Caused (sym is) tt
-  caused-Reading path label is_form next e w (inr (rose, is)) = subst Caused (sym is) rose
+  caused-fault : (fault : LoadFault) (e : Ending) → ((path : List ℕ) → fault ≡ FileFault path → Rose (files.faults path) (files_now.faults path)) → Faulted fault e → Caused e
+  caused-fault (FileFault path) e w is = subst Caused (sym is) (w path refl)
+  caused-fault (RefusedFault refusal) e w is = subst Caused (sym is) tt
+  caused-fault Memory e w is = absurd is
 
-  caused-Plays : (b : Bundle) (replies : List Reply) (e : Ending) → Plays b replies e → Caused e
-  caused-Plays b replies e (session, mock, is) = subst Caused (sym is) tt
+  caused-plays : (bundle : Bundle) (path : List ℕ) (x : Result (List Reply) LoadFault) (e : Ending) → Gives_replies files files_now path x → Plays bundle x e → Caused e
+  caused-plays bundle path (Ok replies) e gives (session, mock, is) = subst Caused (sym is) tt
+  caused-plays bundle path (Err fault) e gives told =
+      let P : LoadFault → Type 0 = λ f. Gives_replies files files_now path (Err f) in
+      caused-fault fault e (λ p is. replies-file files files_now p path (subst P is gives)) told
 
-  caused-replies : (b : Bundle) (path : List ℕ) (e : Ending) → FromReplies files files_now b path e → Caused e
-  caused-replies b path e came =
-      caused-Reading path (codes "replies") are_replies (λ tree. Plays b (replies_of tree)) e (λ tree plays. caused-Plays b (replies_of tree) e plays) came
+  caused-bundle : (setup replies : List ℕ) (x : Result Bundle LoadFault) (e : Ending) → Loads files files_now setup x → FromBundle files files_now replies x e → Caused e
+  caused-bundle setup replies (Ok bundle) e loads (x, gives, plays) = caused-plays bundle replies x e gives plays
+  caused-bundle setup replies (Err fault) e loads told =
+      let P : LoadFault → Type 0 = λ f. Loads files files_now setup (Err f) in
+      caused-fault fault e (λ p is. loads-file files files_now p setup (subst P is loads)) told
 
-  caused-source : (description : Json) (replies : List ℕ) (e : Ending) → FromSource files files_now description replies e → Caused e
-  caused-source description replies e came =
-      caused-Reading (source_path description) (codes "source " ++ source_name description) (λ tree. is_source tree description)
-      (λ source. FromReplies files files_now (bundle_of description source) replies) e (λ source goes. caused-replies (bundle_of description source) replies e goes) came
-
-  caused-description : (path replies : List ℕ) (e : Ending) → FromDescription files files_now path replies e → Caused e
-  caused-description path replies e came =
-      caused-Reading path (codes "arazzo") is_description (λ description. FromSource files files_now description replies) e (λ tree goes. caused-source tree replies e goes) came
-
-  caused-setup : (setup replies : List ℕ) (e : Ending) → Mocks files files_now setup replies e → Caused e
-  caused-setup setup replies e came =
-      caused-Reading setup (codes "setup") is_setup (λ tree. FromDescription files files_now (description_path tree) replies) e (λ tree goes. caused-description (description_path tree) replies e goes) came
+  caused-setup : (setup replies : List ℕ) (e : Ending) → Mocks files files_now replies setup e → Caused e
+  caused-setup setup replies e (x, loads, goes) = caused-bundle setup replies x e loads goes
 
   not-words : (e : Ending) → Caused e → status e ≡ 2 → ⊥
   not-words Words c st = c
   not-words (File path) c st = omega (arith, st)
   not-words (Refused refusal) c st = omega (arith, st)
-  not-words (Played s) c st = not s.end 2 (λ h. omega (arith, h)) (λ h. omega (arith, h)) st
+  not-words (Played s) c st = not s.end 2 (λ h. omega (arith, h)) (λ h. omega (arith, h)) (λ h. omega (arith, h)) (λ h. omega (arith, h)) st
 
   words-only : (command : Command) (e : Ending) → Comes files files_now command e → status e ≡ 2 → command ≡ Unknown
   words-only Unknown e came st = refl
@@ -128,6 +154,8 @@ module _ (files files_now : FilesView) (command : Command) (sink sink_now : Sink
   rows_whole : Whole Came sink sink_now answer → Rows files files_now command sink sink_now answer
   rows_whole w = record {
     completed = λ is. let r = at-0 w.ending (sym w.answered ∙ is) in (r.0, r.1, subst Came r.2 w.came, r.3);
+    broke = λ is. let r = at-1 w.ending (sym w.answered ∙ is) in (r.0, r.1, subst Came r.2 w.came, r.3);
+    stuck = λ is. let r = at-7 w.ending (sym w.answered ∙ is) in (r.0, r.1, r.2, subst Came r.3 w.came, r.4);
     words = λ is. words-only files files_now command w.ending w.came (sym w.answered ∙ is);
     no_command = λ none. inl (w.answered ∙ words-status files files_now w.ending (subst (λ k. Comes files files_now k w.ending) none w.came));
     refused = λ is. let r = at-3 w.ending (sym w.answered ∙ is) in (r.0, subst Came r.1 w.came, subst (λ e. Gains sink.held sink_now.held (λ added. added ≡ report e)) r.1 w.put);
@@ -143,6 +171,8 @@ module _ (files files_now : FilesView) (command : Command) (sink sink_now : Sink
   rows (inl w) = rows_whole w
   rows (inr (inl w)) = record {
     completed = λ is. absurd (omega (arith, w.answered, is));
+    broke = λ is. absurd (omega (arith, w.answered, is));
+    stuck = λ is. absurd (omega (arith, w.answered, is));
     words = λ is. absurd (omega (arith, w.answered, is));
     no_command = λ none. inr (inl w.answered);
     refused = λ is. absurd (omega (arith, w.answered, is));
@@ -154,6 +184,8 @@ module _ (files files_now : FilesView) (command : Command) (sink sink_now : Sink
   }
   rows (inr (inr w)) = record {
     completed = λ is. absurd (omega (arith, w.answered, is));
+    broke = λ is. absurd (omega (arith, w.answered, is));
+    stuck = λ is. absurd (omega (arith, w.answered, is));
     words = λ is. absurd (omega (arith, w.answered, is));
     no_command = λ none. inr (inr w.answered);
     refused = λ is. absurd (omega (arith, w.answered, is));

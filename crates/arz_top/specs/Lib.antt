@@ -1,13 +1,5 @@
-pub mod At
+pub mod Endings
 pub mod Ends
-pub mod FileTree
-pub mod FirstForm
-pub mod FirstFormNames
-pub mod FirstFormTexts
-pub mod FirstFormWords
-pub mod Loading
-pub mod Mock
-pub mod Plain
 pub mod Report
 pub mod Rows
 pub mod Words

@@ -9,12 +9,12 @@ use Rattle.arz_json.specs.Writing.{data_of}
 use Rattle.arz_json.specs.declared.Json.TheVariants.{Object}
 use Rattle.arz_json.specs.declared.Refusal.{Refusal}
 use Rattle.arz_flow.specs.declared.answers.End.{End}
-use Rattle.arz_flow.specs.declared.answers.End.TheVariants.{Completed, Out}
+use Rattle.arz_flow.specs.declared.answers.End.TheVariants.{Completed, Broke, Out, Stuck}
 use Rattle.arz_flow.specs.Lines.{line_of_end}
-use Rattle.arz_top.specs.declared.session.How.{How}
-use Rattle.arz_top.specs.declared.session.How.TheVariants.{Held, Sent, Served, Mock}
-use Rattle.arz_top.specs.declared.session.Line.{Line}
-use Rattle.arz_top.specs.declared.session.Session.{Session}
+use Rattle.arz_session.specs.declared.session.How.{How}
+use Rattle.arz_session.specs.declared.session.How.TheVariants.{Held, Sent, Served, Mock}
+use Rattle.arz_session.specs.declared.session.Line.{Line}
+use Rattle.arz_session.specs.declared.session.Session.{Session}
 use Rattle.arz_top.specs.declared.ending.Ending.{Ending}
 use Rattle.arz_top.specs.declared.ending.Ending.TheVariants.{Words, File, Refused, Played}
 
@@ -42,7 +42,9 @@ ask_lines lines = flat_map ask_line lines
 -- the outputs as one line of compact JSON
 abbrev pub outputs_line : End → List ℕ
 outputs_line (Completed outputs) = line (compact_text (data_of (Object outputs)))
+outputs_line (Broke outputs) = line (compact_text (data_of (Object outputs)))
 outputs_line (Out ask) = []
+outputs_line (Stuck cause at) = []
 
 -- a line for each ask, the end's line, and the outputs
 abbrev pub session_report : Session → List ℕ
@@ -69,7 +71,9 @@ report (Played session) = session_report session
 
 abbrev pub end_status : End → ℕ
 end_status (Completed outputs) = 0
+end_status (Broke outputs) = 1
 end_status (Out ask) = 14
+end_status (Stuck cause at) = 7
 
 -- what is answered
 abbrev pub status : Ending → ℕ

@@ -4,24 +4,30 @@ use Rattle.arz_json.specs.declared.Member.{Member}
 use Rattle.arz_json.specs.declared.Refusal.{Refusal}
 use Rattle.arz_world.specs.Outside.{Gains, Rose, FilesView, SinkView}
 use Rattle.arz_flow.specs.declared.answers.Ask.{Ask}
-use Rattle.arz_flow.specs.declared.answers.End.TheVariants.{Completed, Out}
+use Rattle.arz_flow.specs.declared.answers.Cause.{Cause}
+use Rattle.arz_flow.specs.declared.answers.Spot.{Spot}
+use Rattle.arz_flow.specs.declared.answers.End.TheVariants.{Completed, Broke, Out, Stuck}
 use Rattle.arz_top.specs.declared.words.Command.{Command}
 use Rattle.arz_top.specs.declared.words.Command.TheVariants.{Unknown}
-use Rattle.arz_top.specs.declared.session.Session.{Session}
+use Rattle.arz_session.specs.declared.session.Session.{Session}
 use Rattle.arz_top.specs.declared.ending.Ending.{Ending}
 use Rattle.arz_top.specs.declared.ending.Ending.TheVariants.{Refused, Played}
-use Rattle.arz_top.specs.Loading.{Comes}
+use Rattle.arz_top.specs.Endings.{Comes}
 use Rattle.arz_top.specs.Report.{line, report, status, refusal_line}
 
 -- what the files and the sink show at the beginning of a call and at its end
 pub record Rows (files files_now : FilesView) (command : Command) (sink sink_now : SinkView) (answer : ℕ) : Type 0 where
   -- 0 only where the workflow was completed
   pub completed : answer ≡ 0 → (s : Session) × (outputs : List Member) × Comes files files_now command (Played s) × (s.end ≡ Completed outputs)
+  -- 1 only where a step failed
+  pub broke : answer ≡ 1 → (s : Session) × (outputs : List Member) × Comes files files_now command (Played s) × (s.end ≡ Broke outputs)
   -- 2 exactly where the words are no command
   pub words : answer ≡ 2 → command ≡ Unknown
   pub no_command : command ≡ Unknown → (answer ≡ 2) ⊎ (answer ≡ 10) ⊎ (answer ≡ 11)
   -- 3 only where a document is refused, and this refusal is printed
   pub refused : answer ≡ 3 → (refusal : Refusal) × Comes files files_now command (Refused refusal) × Gains sink.held sink_now.held (λ added. added ≡ refusal_line refusal)
+  -- 7 only where the execution couldn't go on
+  pub stuck : answer ≡ 7 → (s : Session) × (cause : Cause) × (at : Spot) × Comes files files_now command (Played s) × (s.end ≡ Stuck cause at)
   -- 10 only where the sink failed
   pub sink_fault : answer ≡ 10 → Rose sink.faults sink_now.faults
   -- 13 only where a read of the printed path failed

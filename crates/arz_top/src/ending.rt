@@ -1,6 +1,6 @@
 // What a command comes to.
-use crate::session::Session;
 use arz_json::{Refusal, Text};
+use arz_session::Session;
 
 /// What a command comes to.
 #[derive(Debug, Drop)]

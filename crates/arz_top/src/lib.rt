@@ -2,19 +2,12 @@
 #![tactic(auto)]
 
 mod ending;
-mod forms;
-mod load;
-mod machine;
-mod mock;
-mod replies;
 mod report;
 mod run;
-mod session;
 mod words;
 
 pub use ending::Ending;
 pub use run::run_words;
-pub use session::{How, Line, Session};
 pub use words::Command;
 
 #[cfg(test)]

@@ -3,13 +3,13 @@ ghost use Rattle.std.specs.Prelude.{◌≡◌, ◌++◌, true, IfOk, OnOk, strin
 ghost use Rattle.serde_json.specs.Written.{compact_text};
 ghost use Rattle.arz_json.specs.Writing.{data_of};
 ghost use Rattle.arz_json.specs.declared.Json.TheVariants.{Object};
-ghost use Rattle.arz_top.specs.Plain.{are_plain, has_plain_outputs};
+ghost use Rattle.arz_machine.specs.Plain.{are_plain, has_plain_outputs};
 ghost use Rattle.arz_top.specs.Report.{line, how_text, status_text, ask_line, ask_lines, outputs_line, session_report, file_report, rule_name as name_of_rule, refusal_line, report as report_of, end_status as status_of_end, status as status_of};
 
 use crate::ending::Ending;
-use crate::session::{How, Line, Session};
 use arz_flow::{End, end_line};
 use arz_json::{CompactFault, Json, Members, Refusal, compact};
+use arz_session::{How, Line, Session};
 use std::alloc::{AllocError, Global};
 
 /// What is printed.
@@ -41,7 +41,9 @@ fn end_status(end: &End) -> u8
 {
     match end {
         End::Completed(_) => 0,
+        End::Broke(_) => 1,
         End::Out(_) => 14,
+        End::Stuck(_, _) => 7,
     }
 }
 
@@ -143,8 +145,8 @@ fn push_outputs(alloc: Global, out: &mut Vec<u8>, end: End) -> Result<(), AllocE
     ensures { OnOk result (out.new.items ≡ out.old.items ++ outputs_line end) }
 {
     match end {
-        End::Completed(outputs) => push_object(alloc, out, outputs),
-        End::Out(_) => Ok(()),
+        End::Completed(outputs) | End::Broke(outputs) => push_object(alloc, out, outputs),
+        End::Out(_) | End::Stuck(_, _) => Ok(()),
     }
 }
 

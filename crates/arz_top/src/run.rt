@@ -1,16 +1,17 @@
 // The top call.
-ghost use Rattle.std.specs.Prelude.{◌≡◌, map, string_bytes, codes, IfOk};
+ghost use Rattle.std.specs.Prelude.{◌≡◌, map, string_bytes, codes, IfOk, MatchResult};
 ghost use Rattle.arz_world.specs.Outside.{Gains, IsPrefix};
-ghost use Rattle.arz_top.specs.Loading.{Comes};
+ghost use Rattle.arz_top.specs.Endings.{Faulted, Mocks, Comes};
 ghost use Rattle.arz_top.specs.Report.{line};
 ghost use Rattle.arz_top.specs.Ends.{Ends};
 ghost use Rattle.arz_top.specs.Rows.{Rows};
 ghost use Rattle.arz_top.specs.Words.{taken};
 
 use crate::ending::Ending;
-use crate::load::mock_files;
 use crate::report::{report, status};
 use crate::words::{Command, read_words};
+use arz_bundle::{LoadFault, load};
+use arz_session::mock;
 use arz_world::{Files, Sink, SinkFault};
 use std::alloc::{AllocError, Global};
 
@@ -58,6 +59,37 @@ fn ending<F: Files>(alloc: Global, words: &[String], files: &mut F) -> Result<En
             mock_files(alloc, files, setup.as_str(), replies.as_str())
         }
         Command::Unknown => Ok(Ending::Words),
+    }
+}
+
+// Runs the workflow of a setup over given replies, from the files at these paths.
+fn mock_files<F: Files>(
+    alloc: Global,
+    files: &mut F,
+    setup: &str,
+    replies: &str,
+) -> Result<Ending, AllocError>
+    ensures { IfOk result (Mocks (F.files files.old) (F.files files.new) replies.now setup.now) }
+{
+    let bundle = match load(alloc, setup, files) {
+        Ok(bundle) => bundle,
+        Err(fault) => return fault_ending(fault),
+    };
+    let replies = match arz_bundle::replies(alloc, replies, files) {
+        Ok(replies) => replies,
+        Err(fault) => return fault_ending(fault),
+    };
+    Ok(Ending::Played(mock(alloc, &bundle, replies)?))
+}
+
+// What it comes to that files give nothing.
+fn fault_ending(fault: LoadFault) -> Result<Ending, AllocError>
+    ensures { MatchResult result (Faulted fault) (λ _. fault ≡ LoadFault.Memory) }
+{
+    match fault {
+        LoadFault::File(path) => Ok(Ending::File(path)),
+        LoadFault::Refused(refusal) => Ok(Ending::Refused(refusal)),
+        LoadFault::Memory => Err(AllocError),
     }
 }
 

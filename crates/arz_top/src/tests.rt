@@ -66,13 +66,23 @@ fn words_that_are_taken(rt: HostRuntime) -> Result<(), Fail> {
     Ok(())
 }
 
+const DONE: &str = r#"[{"status":200}]"#;
+
+const WHO: &str =
+    r#"{"arazzo":"1.0.1","info":{"title":"t","version":"1"},"sourceDescriptions":[{"name":"pets","url":"pets.json","type":"openapi"}],"workflows":[{"workflowId":"main","steps":[{"stepId":"get","operationId":"getPet","parameters":[{"name":"id","in":"path","value":"$inputs.who"}]}]}]}"#;
+
+const ID: &str =
+    r#"{"arazzo":"1.0.1","info":{"title":"t","version":"1"},"sourceDescriptions":[{"name":"pets","url":"pets.json","type":"openapi"}],"workflows":[{"workflowId":"main","steps":[{"stepId":"get","operationId":"getPet","parameters":[{"name":"id","in":"path","value":7}],"outputs":{"id":"$response.body#/id"}},{"stepId":"again","operationId":"getPet","parameters":[{"name":"id","in":"path","value":"{$steps.get.outputs.id}-x"}],"outputs":{"code":"$statusCode"}}],"outputs":{"id":"$steps.get.outputs.id","code":"$steps.again.outputs.code","none":"$steps.get.outputs.none"}}]}"#;
+
 #[test]
-fn reports(rt: HostRuntime) -> Result<(), Fail> {
+fn what_files_come_to(rt: HostRuntime) -> Result<(), Fail> {
     let alloc = rt.alloc();
-    let done = r#"[{"status":200}]"#;
-    let line = "1 GET http://localhost:8080/pets/7 200 mock\ncompleted\n{}\n";
     for (texts, report, status) in [
-        ([SETUP, DESCRIPTION, SOURCE, done], line, 0),
+        (
+            [SETUP, DESCRIPTION, SOURCE, DONE],
+            "1 GET http://localhost:8080/pets/7 200 mock\ncompleted\n{}\n",
+            0,
+        ),
         (
             [
                 SETUP,
@@ -89,12 +99,12 @@ fn reports(rt: HostRuntime) -> Result<(), Fail> {
             14,
         ),
         (
-            ["{}", DESCRIPTION, SOURCE, done],
+            ["{}", DESCRIPTION, SOURCE, DONE],
             "refused 0 NotBuilt setup#\n",
             3,
         ),
         (
-            [SETUP, r#"{"arazzo":"#, SOURCE, done],
+            [SETUP, r#"{"arazzo":"#, SOURCE, DONE],
             "refused 0 NotBuilt arazzo#\n",
             3,
         ),
@@ -104,14 +114,90 @@ fn reports(rt: HostRuntime) -> Result<(), Fail> {
             3,
         ),
         (
-            [SETUP, DESCRIPTION, SOURCE, r#"[{"status":404}]"#],
+            [SETUP, DESCRIPTION, SOURCE, r#"[{"status":100}]"#],
             "refused 0 NotBuilt replies#\n",
             3,
         ),
         (
-            [r#"{"arazzo":"x.json"}"#, DESCRIPTION, SOURCE, done],
+            [r#"{"arazzo":"x.json"}"#, DESCRIPTION, SOURCE, DONE],
             "file x.json\n",
             13,
+        ),
+    ] {
+        let mut files = files(alloc, texts, &[])?;
+        let mut out = MemorySink::new(alloc, Many::new(alloc));
+        let line = words(alloc, &["mock", "s.json", "r.json"])?;
+        let answer = run_words(alloc, &line, &mut files, &mut out);
+        assert_eq!(rt; answer, status, "{report}");
+        assert_eq!(rt; out.bytes(), report.as_bytes(), "{report}");
+    }
+    Ok(())
+}
+
+#[test]
+fn what_workflows_come_to(rt: HostRuntime) -> Result<(), Fail> {
+    let alloc = rt.alloc();
+    for (texts, report, status) in [
+        (
+            [
+                r#"{"arazzo":"a.json","inputs":{"who":"a b"}}"#,
+                WHO,
+                SOURCE,
+                DONE,
+            ],
+            "1 GET http://localhost:8080/pets/a%20b 200 mock\ncompleted\n{}\n",
+            0,
+        ),
+        ([SETUP, WHO, SOURCE, DONE], "stuck Unresolved main/get\n", 7),
+        (
+            [SETUP, DESCRIPTION, SOURCE, r#"[{"status":404}]"#],
+            "1 GET http://localhost:8080/pets/7 404 mock\nbroke\n{}\n",
+            1,
+        ),
+        (
+            [
+                SETUP,
+                ID,
+                SOURCE,
+                r#"[{"status":200,"body":{"id":7}},{"status":201}]"#,
+            ],
+            "1 GET http://localhost:8080/pets/7 200 mock\n2 GET http://localhost:8080/pets/7-x 201 mock\ncompleted\n{\"code\":201,\"id\":7}\n",
+            0,
+        ),
+        (
+            [
+                SETUP,
+                ID,
+                SOURCE,
+                r#"[{"status":200,"body":{"id":7}},{"status":500}]"#,
+            ],
+            "1 GET http://localhost:8080/pets/7 200 mock\n2 GET http://localhost:8080/pets/7-x 500 mock\nbroke\n{\"code\":500,\"id\":7}\n",
+            1,
+        ),
+        (
+            [
+                SETUP,
+                ID,
+                SOURCE,
+                r#"[{"status":200,"text":"{\"id\":1.5}"},{"status":201}]"#,
+            ],
+            "1 GET http://localhost:8080/pets/7 200 mock\nstuck FractionUsed main/again\n",
+            7,
+        ),
+        (
+            [
+                SETUP,
+                ID,
+                SOURCE,
+                r#"[{"status":404,"text":"{\"id\":1.5}"}]"#,
+            ],
+            "1 GET http://localhost:8080/pets/7 404 mock\nstuck FractionUsed main\n",
+            7,
+        ),
+        (
+            [SETUP, ID, SOURCE, r#"[{"status":200,"body":{"id":7}}]"#],
+            "1 GET http://localhost:8080/pets/7 200 mock\nout 2 GET http://localhost:8080/pets/7-x\n",
+            14,
         ),
     ] {
         let mut files = files(alloc, texts, &[])?;

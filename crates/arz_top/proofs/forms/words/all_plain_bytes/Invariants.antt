@@ -1,7 +1,0 @@
-use Rattle.std.proofs.Common.{◌≡◌, drop}
-use Rattle.std.specs.List.{list_all}
-use Rattle.arz_top.specs.FirstFormWords.{is_plain_byte}
-use Rattle.arz_top.proofs.forms.words.all_plain_bytes.Given as goal
-
-abbrev pub invariant-loop-byte : goal.invariant-loop-byte
-invariant-loop-byte l = list_all is_plain_byte l.bytes ≡ list_all is_plain_byte (drop l.byte-index l.bytes)

@@ -1,6 +1,0 @@
-use Rattle.std.proofs.Common.{◌≡◌, map, take}
-use Rattle.arz_top.specs.Loading.{reply_of}
-use Rattle.arz_top.proofs.replies.read_replies.Given as goal
-
-abbrev pub invariant-loop-item : goal.invariant-loop-item
-invariant-loop-item l = l.replies.items ≡ map reply_of (take l.item-index l.items)

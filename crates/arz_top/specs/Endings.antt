@@ -1,0 +1,46 @@
+-- What a command comes to.
+use Rattle.std.specs.Prelude.{◌≡◌, ℕ, List}
+use Rattle.std.specs.declared.result.Result.{Result}
+use Rattle.std.specs.declared.result.Result.TheVariants.{Ok, Err}
+use Rattle.arz_world.specs.Outside.{FilesView}
+use Rattle.arz_world.specs.declared.Reply.{Reply}
+use Rattle.arz_flow.specs.declared.bundle.Bundle.{Bundle}
+use Rattle.arz_bundle.specs.declared.fault.LoadFault.{LoadFault}
+use Rattle.arz_bundle.specs.declared.fault.LoadFault.TheVariants.{File as FileFault, Refused as RefusedFault, Memory}
+use Rattle.arz_bundle.specs.Loading.{Loads, Gives_replies}
+use Rattle.arz_top.specs.declared.words.Command.{Command}
+use Rattle.arz_top.specs.declared.words.Command.TheVariants.{Mock, Unknown}
+use Rattle.arz_session.specs.declared.session.Session.{Session}
+use Rattle.arz_top.specs.declared.ending.Ending.{Ending}
+use Rattle.arz_top.specs.declared.ending.Ending.TheVariants.{Words, File, Refused, Played}
+use Rattle.arz_session.specs.Mock.{IsMock}
+
+-- where files give nothing, the ending tells why; want of memory comes to no ending
+abbrev pub Faulted : LoadFault → Ending → Type 0
+Faulted (FileFault path) ending = ending ≡ File path
+Faulted (RefusedFault refusal) ending = ending ≡ Refused refusal
+Faulted Memory ending = ⊥
+
+-- the execution over the replies, where there are replies
+abbrev pub Plays : Bundle → Result (List Reply) LoadFault → Ending → Type 0
+Plays bundle (Ok replies) ending = (session : Session) × IsMock bundle replies session × (ending ≡ Played session)
+Plays bundle (Err fault) ending = Faulted fault ending
+
+-- before, now: what the files show at the call's beginning and end
+module _ (before now : FilesView) (replies : List ℕ) where
+  abbrev pub FromReplies : Bundle → Ending → Type 0
+  FromReplies bundle ending = (given : Result (List Reply) LoadFault) × Gives_replies before now replies given × Plays bundle given ending
+
+  abbrev pub FromBundle : Result Bundle LoadFault → Ending → Type 0
+  FromBundle (Ok bundle) ending = FromReplies bundle ending
+  FromBundle (Err fault) ending = Faulted fault ending
+
+  -- the files of the setup and then the replies
+  abbrev pub Mocks : List ℕ → Ending → Type 0
+  Mocks setup ending = (loaded : Result Bundle LoadFault) × Loads before now setup loaded × FromBundle loaded ending
+
+module _ (before now : FilesView) where
+  -- what these words come to
+  abbrev pub Comes : Command → Ending → Type 0
+  Comes Unknown ending = ending ≡ Words
+  Comes (Mock setup replies) ending = Mocks before now replies setup ending
