@@ -1,0 +1,17 @@
+pub mod Runs
+pub mod Texts
+pub mod Lists
+pub mod Chains
+pub mod Inverse
+pub mod Tokens
+pub mod Figures
+pub mod SoundParts
+pub mod Sound
+pub mod SoundTerms
+pub mod Shorter
+pub mod Lengths
+pub mod Places
+pub mod Follow
+pub mod CompleteParts
+pub mod Complete
+pub mod Contract

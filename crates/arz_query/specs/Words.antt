@@ -1,0 +1,82 @@
+-- What reading gives, and how readings are put together. Private clauses cite this.
+use Rattle.std.specs.Prelude.{ℕ, zero, suc, ◌≡◌, ◌&&◌, true, false, List, [], ◌∷◌, ◌++◌, length, Option, Some, None, option_map, option_and_then, Result, Ok, Err, nat_lt, if◌then◌else◌}
+use Rattle.arz_query.specs.declared.pieces.Flaw.{Flaw}
+use Rattle.arz_query.specs.declared.pieces.FlawKind.{FlawKind}
+use Rattle.arz_query.specs.declared.pieces.Marks.{Marks}
+use Rattle.arz_query.specs.declared.pieces.Part.{Part}
+use Rattle.arz_query.specs.declared.pieces.ReadFault.{ReadFault}
+use Rattle.arz_query.specs.declared.pieces.ReadFault.TheVariants as fault
+
+-- what was read, what is to be told of it, and the rest. A flaw has its place as the number of bytes
+-- that are left where it begins, so that it stays the same whatever was read before.
+pub record Read (V : Type 0) : Type 0 where
+  pub value : V
+  pub marks : Marks
+  pub rest : List ℕ
+
+abbrev pub Reader : Type 0 → Type 0
+Reader V = List ℕ → Option (Read V)
+
+-- of two flaws, the one with the least offset
+abbrev pub first_flaw : Option Flaw → Option Flaw → Option Flaw
+first_flaw None b = b
+first_flaw (Some f) None = Some f
+first_flaw (Some f) (Some g) = if nat_lt f.left g.left then Some g else Some f
+
+-- no flaw, and nothing that isn't singular
+abbrev pub fine : Marks
+fine = record { flaw = None; single = true }
+
+abbrev pub flawed : FlawKind → ℕ → Marks
+flawed kind left = record { flaw = Some (record { kind = kind; left = left }); single = true }
+
+-- of two parts, in the order of the text
+abbrev pub joined : Marks → Marks → Marks
+joined a b = record { flaw = first_flaw a.flaw b.flaw; single = a.single && b.single }
+
+-- of something that isn't singular
+abbrev pub plural : Marks → Marks
+plural m = record { flaw = m.flaw; single = false }
+
+-- what f makes of it, or the other
+abbrev pub chosen : {X Y : Type 0} → Option X → (X → Y) → Y → Y
+chosen None f other = other
+chosen (Some x) f other = f x
+
+-- the value changed
+abbrev pub with_value : {V W : Type 0} → (V → W) → Read V → Read W
+with_value made one = record { value = made one.value; marks = one.marks; rest = one.rest }
+
+abbrev pub with_rest : {V : Type 0} → Read V → List ℕ → Read V
+with_rest one rest = record { value = one.value; marks = one.marks; rest = rest }
+
+-- behind what was read before
+abbrev pub with_front : {V : Type 0} → List V → Marks → Read (List V) → Read (List V)
+with_front front marks more = record { value = front ++ more.value; marks = joined marks more.marks; rest = more.rest }
+
+abbrev pub no_more : {V : Type 0} → List ℕ → Read (List V)
+no_more s = record { value = []; marks = fine; rest = s }
+
+-- at most so many items, each behind a separator
+unfoldable pub more_at : {V : Type 0} → ℕ → (List ℕ → Option (List ℕ)) → Reader V → Reader (List V)
+more_at zero separator item s = Some (no_more s)
+more_at (suc n) separator item s =
+    chosen (separator s)
+    (λ t. option_and_then (λ one. option_map (with_front (one.value ∷ []) one.marks) (more_at n separator item one.rest)) (item t))
+    (Some (no_more s))
+
+-- an item, and at most so many behind it as there are bytes
+unfoldable pub items_at : {V : Type 0} → (List ℕ → Option (List ℕ)) → Reader V → Reader (List V)
+items_at separator item s =
+    option_and_then (λ one. option_map (with_front (one.value ∷ []) one.marks) (more_at (length s) separator item one.rest)) (item s)
+
+-- ---- what the code answers
+
+abbrev pub as_read : {V : Type 0} → Part V → Read V
+as_read p = record { value = p.value; marks = p.marks; rest = p.rest.now }
+
+-- unless memory ran out
+abbrev pub Gives : {X Y : Type 0} → (X → Y) → Result X ReadFault → Option Y → Type 0
+Gives view (Ok x) meant = meant ≡ Some (view x)
+Gives view (Err fault.Syntax) meant = meant ≡ None
+Gives view (Err fault.Memory) meant = Unit {0}

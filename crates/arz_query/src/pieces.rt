@@ -1,0 +1,112 @@
+// What reading gives.
+ghost use Rattle.std.specs.Prelude.{◌≡◌};
+ghost use Rattle.arz_query.specs.Words.{first_flaw};
+ghost use Rattle.arz_query.specs.declared.pieces.ReadFault.TheVariants.{Memory};
+
+use std::alloc::AllocError;
+
+/// Which flaw a text of the grammar has.
+#[derive(Clone, Copy, Debug, PartialEq, Eq)]
+pub(crate) enum FlawKind {
+    IllTyped,
+    Fraction,
+    IntegerRange,
+}
+
+/// A flaw, and how many bytes are left where it begins.
+#[derive(Clone, Copy, Debug, PartialEq, Eq)]
+pub(crate) struct Flaw {
+    pub kind: FlawKind,
+    pub left: usize,
+}
+
+/// What is to be told of a part: its first flaw, and whether each part of it may stand in a singular
+/// query (RFC 9535, section 2.3.5.1).
+#[derive(Clone, Copy, Debug, PartialEq, Eq)]
+pub(crate) struct Marks {
+    pub flaw: Option<Flaw>,
+    pub single: bool,
+}
+
+/// What was read, what is to be told of it, and the rest.
+#[derive(Debug, Drop)]
+pub(crate) struct Part<'a, T> {
+    pub value: T,
+    pub marks: Marks,
+    pub rest: &'a [u8],
+}
+
+/// Why nothing was read.
+#[derive(Clone, Copy, Debug, PartialEq, Eq)]
+pub(crate) enum ReadFault {
+    Syntax,
+    Memory,
+}
+
+impl From<AllocError> for ReadFault {
+    ghost from_gives = { λ _ e. e ≡ Memory };
+
+    fn from(_e: AllocError) -> ReadFault {
+        ReadFault::Memory
+    }
+}
+
+fn earlier(first: Option<Flaw>, later: Option<Flaw>) -> Option<Flaw>
+    ensures { result ≡ first_flaw first later }
+{
+    let Some(one) = first else {
+        return later;
+    };
+    let Some(other) = later else {
+        return first;
+    };
+    if one.left < other.left {
+        Some(other)
+    } else {
+        Some(one)
+    }
+}
+
+impl Marks {
+    ghost use Rattle.arz_query.specs.Words.{fine, flawed as flawed_marks, joined as joined_marks, plural as plural_marks, first_flaw};
+
+    /// No flaw, and nothing that isn't singular.
+    pub(crate) fn fine() -> Marks
+        ensures { result ≡ fine }
+    {
+        Marks {
+            flaw: None,
+            single: true,
+        }
+    }
+
+    /// A flaw that begins where so many bytes are left.
+    pub(crate) fn flawed(kind: FlawKind, left: usize) -> Marks
+        ensures { result ≡ flawed_marks kind left }
+    {
+        Marks {
+            flaw: Some(Flaw { kind, left }),
+            single: true,
+        }
+    }
+
+    /// Those of this part and of one that stands further on.
+    pub(crate) fn joined(self, later: Marks) -> Marks
+        ensures { result ≡ joined_marks self later }
+    {
+        Marks {
+            flaw: earlier(self.flaw, later.flaw),
+            single: self.single && later.single,
+        }
+    }
+
+    /// Those of something that isn't singular.
+    pub(crate) fn plural(self) -> Marks
+        ensures { result ≡ plural_marks self }
+    {
+        Marks {
+            flaw: self.flaw,
+            single: false,
+        }
+    }
+}
