@@ -1,0 +1,21 @@
+use Rattle.std.proofs.Common.{◌≡◌, map, arith}
+use Rattle.std.proofs.lemmas.Grind.{common_steps}
+use Rattle.arz_path.specs.Selected.{is_some_node}
+use Rattle.arz_path.specs.Results.{setting_of, bit_seen}
+use Rattle.arz_path.specs.Seen.{seen}
+use Rattle.arz_path.proofs.Outcomes.{through_map}
+use Rattle.arz_path.proofs.Faults.{exit, fails_map}
+use Rattle.arz_path.proofs.Parts.{is_any-run}
+use Rattle.arz_path.proofs.selecting.any.Goals as goal
+
+pub returns-in_err-nodes-clause-says : goal.returns-in_err-nodes-clause-says
+returns-in_err-nodes-clause-says g c =
+    let run = is_any-run c.args.query.now (setting_of (g.P.Patterns.patterns c.args.rx.now) c.args.root.now) in
+    exit bit_seen c.from_residual.result c.in_err-nodes.field-0.0 _ _ _ c.from_residual.ensures.1
+    (fails_map _ is_some_node _ _ _ _ run c.in_err-nodes.ensures.gives)
+
+pub returns-clause-says : goal.returns-clause-says
+returns-clause-says g c =
+    let run = is_any-run c.args.query.now (setting_of (g.P.Patterns.patterns c.args.rx.now) c.args.root.now) in
+    let bit : c.has_any.result ≡ is_some_node (map seen c.in_ok-nodes.nodes.items) = grind (arith, common_steps) in
+    rw (run, bit) (through_map is_some_node _ _ c.in_ok-nodes.ensures.gives)
