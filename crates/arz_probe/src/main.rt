@@ -1,11 +1,19 @@
-//! The wire form of JSON trees, from the command line: `wire FILE` and `unwire FILE`. It serves
-//! conformance runs and benchmarks.
+//! The libraries from the command line, for conformance runs and benchmarks: the wire form of JSON
+//! trees by `wire FILE` and `unwire FILE`, queries of JSONPath by `path FILE QUERY`, and the mapping of
+//! I-Regexps by `iregexp [--whole] TEXT`.
 #![tactic(auto)]
 
+mod paths;
+mod query_report;
+#[cfg(test)]
+mod query_tests;
+mod regex_patterns;
 mod report;
 #[cfg(test)]
 mod tests;
 
+use query_report::{iregexp_report, path_report};
+use regex_patterns::RegexPatterns;
 use report::{Report, file_report, unwire_report, wire_report, words_report};
 use std::alloc::AllocError;
 use std::io::{ErrorKind, Write};
@@ -28,18 +36,49 @@ fn main(rt: HostRuntime) -> ExitCode {
 fn answered(rt: &HostRuntime) -> Result<Report, AllocError> {
     let words = words(rt)?;
     match words.as_slice() {
-        [mode, path] if mode.as_str() == "wire" => reported(rt, path.as_str(), false),
-        [mode, path] if mode.as_str() == "unwire" => reported(rt, path.as_str(), true),
+        [mode, path] if mode.as_str() == "wire" => wired(rt, path.as_str()),
+        [mode, path] if mode.as_str() == "unwire" => unwired(rt, path.as_str()),
+        [mode, path, query] if mode.as_str() == "path" => {
+            selected(rt, path.as_str(), query.as_str())
+        }
+        [mode, text] if mode.as_str() == "iregexp" => {
+            iregexp_report(rt.alloc(), text.as_str(), false)
+        }
+        [mode, flag, text] if mode.as_str() == "iregexp" && flag.as_str() == "--whole" => {
+            iregexp_report(rt.alloc(), text.as_str(), true)
+        }
         _ => words_report(rt.alloc()),
     }
 }
 
-fn reported(rt: &HostRuntime, path: &str, unwire: bool) -> Result<Report, AllocError> {
+fn wired(rt: &HostRuntime, path: &str) -> Result<Report, AllocError> {
+    match contents(rt, path)? {
+        Some(bytes) => wire_report(rt.alloc(), bytes.as_slice()),
+        None => file_report(rt.alloc(), path),
+    }
+}
+
+fn unwired(rt: &HostRuntime, path: &str) -> Result<Report, AllocError> {
+    match contents(rt, path)? {
+        Some(bytes) => unwire_report(rt.alloc(), bytes.as_slice()),
+        None => file_report(rt.alloc(), path),
+    }
+}
+
+fn selected(rt: &HostRuntime, path: &str, query: &str) -> Result<Report, AllocError> {
+    let mut patterns = RegexPatterns::new(rt.alloc());
+    match contents(rt, path)? {
+        Some(bytes) => path_report(rt.alloc(), bytes.as_slice(), query, &mut patterns),
+        None => file_report(rt.alloc(), path),
+    }
+}
+
+// The bytes of a file, or none where it can't be read.
+fn contents(rt: &HostRuntime, path: &str) -> Result<Option<Vec<u8>>, AllocError> {
     match fs::read(rt, path) {
-        Ok(bytes) if unwire => unwire_report(rt.alloc(), bytes.as_slice()),
-        Ok(bytes) => wire_report(rt.alloc(), bytes.as_slice()),
+        Ok(bytes) => Ok(Some(bytes)),
         Err(fault) if fault.kind() == ErrorKind::OutOfMemory => Err(AllocError),
-        Err(_) => file_report(rt.alloc(), path),
+        Err(_) => Ok(None),
     }
 }
 

@@ -65,8 +65,8 @@ pub fn file_report(alloc: Global, path: &str) -> Result<Report, AllocError>
     Ok(Report { text, status: 13 })
 }
 
-// The tree of a JSON text, or none where the bytes are no such text.
-fn tree_of_text(alloc: Global, bytes: &[u8]) -> Result<Option<Json>, AllocError>
+/// The tree of a JSON text, or none where the bytes are no such text.
+pub fn tree_of_text(alloc: Global, bytes: &[u8]) -> Result<Option<Json>, AllocError>
     ensures tree { IfOk result (λ t. t ≡ tree_in bytes.now) }
     ensures well_formed { IfOk result (λ t. IfSome t IsWellFormed) }
 {
@@ -114,7 +114,8 @@ fn fault_report(alloc: Global, fault: WireFault) -> Result<Report, AllocError>
     }
 }
 
-fn refused_at(alloc: Global, kind: &str, at: u64) -> Result<Report, AllocError>
+/// The line of a kind of fault with its place, and status 3.
+pub fn refused_at(alloc: Global, kind: &str, at: u64) -> Result<Report, AllocError>
     ensures { IfOk result (λ r. r ≡ refusal (placed kind.now at)) }
 {
     let text = format!(in alloc; "{kind} {at}\n")?;
@@ -122,7 +123,8 @@ fn refused_at(alloc: Global, kind: &str, at: u64) -> Result<Report, AllocError>
     Ok(Report { text, status: 3 })
 }
 
-fn refused(alloc: Global, what: &str) -> Result<Report, AllocError>
+/// A line of a refusal, and status 3.
+pub fn refused(alloc: Global, what: &str) -> Result<Report, AllocError>
     ensures { IfOk result (λ r. r ≡ refusal what.now) }
 {
     let text = format!(in alloc; "{what}\n")?;
