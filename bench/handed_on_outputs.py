@@ -13,15 +13,11 @@ import subprocess
 import sys
 import tempfile
 
+from measuring import measured
+
 TOP = pathlib.Path(__file__).resolve().parent.parent
 PROGRAM = TOP / "crates" / "arz_program" / "out" / "arz_program"
 LONG, SHORT, OUTPUTS, RUNS = 256, 16, 100, 9
-LAUNCH = """
-import os, sys
-child = os.posix_spawn(sys.argv[1], sys.argv[1:], os.environ)
-_, status, usage = os.wait4(child, 0)
-print(os.waitstatus_to_exitcode(status), usage.ru_utime + usage.ru_stime, file=sys.stderr)
-"""
 
 
 def step(number):
@@ -68,12 +64,10 @@ def write(folder, steps):
 
 def seconds(folder, steps):
     """Runs the workflow in this folder, and returns its processor seconds."""
-    launch = [sys.executable, "-I", "-S", "-c", LAUNCH, str(PROGRAM), "mock", "s.json", "r.json"]
-    run = subprocess.run(launch, cwd=folder, capture_output=True)
-    status, time = run.stderr.split()[-2:]
-    if int(status) != 0 or run.stdout.count(b"\n") != steps + 2:
-        sys.exit(f"the run of {steps} steps ended with status {int(status)} and wrote {run.stdout[:200]!r}")
-    return float(time)
+    time, _, printed = measured([PROGRAM, "mock", "s.json", "r.json"], folder)
+    if printed.count(b"\n") != steps + 2:
+        sys.exit(f"the run of {steps} steps wrote {printed[:200]!r}")
+    return time
 
 
 def main():

@@ -17,6 +17,8 @@ import subprocess
 import sys
 import tempfile
 
+from measuring import measured
+
 TOP = pathlib.Path(__file__).resolve().parent.parent
 CRATE = TOP / "crates" / "arz_probe"
 PROGRAM = CRATE / "out" / "arz_probe"
@@ -28,14 +30,6 @@ from jsonpath_ng.ext import parse
 root = json.loads(open(sys.argv[1], 'rb').read())
 print("\\n".join(str(found.full_path) for found in parse(sys.argv[2]).find(root)))
 """
-# A small parent, so that the times are those of the command alone.
-LAUNCH = """
-import os, sys
-child = os.posix_spawn(sys.argv[1], sys.argv[1:], os.environ)
-_, status, usage = os.wait4(child, 0)
-code = os.waitstatus_to_exitcode(status)
-print(code, usage.ru_utime + usage.ru_stime, file=sys.stderr)
-"""
 
 
 def documents():
@@ -45,16 +39,6 @@ def documents():
     yield "descendants", wide, "$..*", 80_000 * 6
     yield "filter over 100,000 objects", objects, "$[?@.size < 10]", 10_000
     yield "slice over 1,000,000 items", list(range(1_000_000)), "$[::-3]", 333_334
-
-
-def measured(command):
-    """Runs a command, and returns its processor seconds and what it printed."""
-    launch = [sys.executable, "-I", "-S", "-c", LAUNCH, *command]
-    run = subprocess.run(launch, capture_output=True)
-    status, seconds = run.stderr.split()[-2:]
-    if int(status) != 0:
-        sys.exit(f"{command[0]} ended with status {int(status)} and wrote {run.stdout[:200]!r}")
-    return float(seconds), run.stdout
 
 
 def has_rival():
@@ -76,7 +60,7 @@ def compare(name, path, query, count, rival):
     times = {which: [] for which in commands}
     for _ in range(RUNS):
         for which, command in commands.items():
-            seconds, printed = measured(command)
+            seconds, _, printed = measured(command)
             if which == "program" and printed.count(b"\n") != count:
                 sys.exit(f"{query} gave another number of places than {count}")
             times[which].append(seconds)

@@ -15,20 +15,14 @@ import subprocess
 import sys
 import tempfile
 
+from measuring import measured
+
 TOP = pathlib.Path(__file__).resolve().parent.parent
 PROGRAM = TOP / "crates" / "arz_program" / "out" / "arz_program"
 LARGEST = 4 * 1024 * 1024
 RUNS = 5
 REPORT = b"1 GET http://localhost:8080/pets/7 200 mock\ncompleted\n{}\n"
 READ = "import json,sys; json.load(open(sys.argv[1]))"
-# A small parent, since a process counts the memory that its parent had when it was started.
-LAUNCH = """
-import os, sys
-child = os.posix_spawn(sys.argv[1], sys.argv[1:], os.environ)
-_, status, usage = os.wait4(child, 0)
-code = os.waitstatus_to_exitcode(status)
-print(code, usage.ru_utime + usage.ru_stime, usage.ru_maxrss, file=sys.stderr)
-"""
 
 
 def write_replies(path):
@@ -39,14 +33,13 @@ def write_replies(path):
     return path.stat().st_size
 
 
-def measured(command, folder, wanted):
-    """Runs a command, and returns its processor seconds and its peak memory in bytes."""
-    launch = [sys.executable, "-I", "-S", "-c", LAUNCH, *command]
-    run = subprocess.run(launch, cwd=folder, capture_output=True)
-    status, seconds, peak = run.stderr.split()[-3:]
-    if int(status) != 0 or run.stdout != wanted:
-        sys.exit(f"{command[0]} ended with status {int(status)} and wrote {run.stdout[:200]!r}")
-    return float(seconds), int(peak) * 1024
+def costs(command, folder, wanted):
+    """Runs a command that is to print `wanted`, and returns its processor seconds and its peak memory
+    in bytes."""
+    seconds, peak, printed = measured(command, folder)
+    if printed != wanted:
+        sys.exit(f"{command[0]} wrote {printed[:200]!r}")
+    return seconds, peak
 
 
 def main():
@@ -60,8 +53,8 @@ def main():
         size = write_replies(folder / "many.json")
         ours, theirs = [], []
         for _ in range(RUNS):
-            ours.append(measured([str(PROGRAM), "mock", "s.json", "many.json"], folder, REPORT))
-            theirs.append(measured([sys.executable, "-c", READ, "many.json"], folder, b""))
+            ours.append(costs([str(PROGRAM), "mock", "s.json", "many.json"], folder, REPORT))
+            theirs.append(costs([sys.executable, "-c", READ, "many.json"], folder, b""))
     seconds = statistics.median(time for time, _ in ours)
     reading = statistics.median(time for time, _ in theirs)
     memory = statistics.median(peak for _, peak in ours)

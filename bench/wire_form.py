@@ -18,6 +18,8 @@ import subprocess
 import sys
 import tempfile
 
+from measuring import measured
+
 TOP = pathlib.Path(__file__).resolve().parent.parent
 CRATE = TOP / "crates" / "arz_probe"
 PROGRAM = CRATE / "out" / "arz_probe"
@@ -25,14 +27,6 @@ LARGEST = 4 * 1024 * 1024
 RUNS = 5
 READ = "import json,sys; json.loads(open(sys.argv[1],'rb').read())"
 READ_AND_PRINT = "import json,sys; json.dumps(json.loads(open(sys.argv[1],'rb').read()))"
-# A small parent, so that the times are those of the command alone.
-LAUNCH = """
-import os, sys
-child = os.posix_spawn(sys.argv[1], sys.argv[1:], os.environ)
-_, status, usage = os.wait4(child, 0)
-code = os.waitstatus_to_exitcode(status)
-print(code, usage.ru_utime + usage.ru_stime, file=sys.stderr)
-"""
 
 
 def document():
@@ -78,12 +72,10 @@ def spelling(value):
 
 def seconds(command, folder, wanted):
     """Runs a command that is to print `wanted`, and returns its processor seconds."""
-    launch = [sys.executable, "-I", "-S", "-c", LAUNCH, *command]
-    run = subprocess.run(launch, cwd=folder, capture_output=True)
-    status, time = run.stderr.split()[-2:]
-    if int(status) != 0 or run.stdout != wanted:
-        sys.exit(f"{command[0]} ended with status {int(status)} and wrote {run.stdout[:200]!r}")
-    return float(time)
+    time, _, printed = measured(command, folder)
+    if printed != wanted:
+        sys.exit(f"{command[0]} wrote {printed[:200]!r}")
+    return time
 
 
 def main():
