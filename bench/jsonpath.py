@@ -1,29 +1,29 @@
 #!/usr/bin/env python3
 """Runs the program `arz_probe` with queries of JSONPath over documents of some MiB, and prints for each
 
-- its time over that of Python's json module at reading the same document, and
+- its time over that of Python's json module at reading the same document (`$` takes what reading
+  takes on our side), and
 - where the package jsonpath-ng is installed, the time of that package over the program's, for
   reading the document, selecting, and printing the places: whole, and without reading, which is
   what the query `$` takes on the same document,
 
-each from medians of five runs in turn. Times are processor seconds. How many places are printed is
-compared with what this script knows of the document.
+each from medians of five runs in turn. What each side takes for a document of one integer, its start,
+is taken off. Times are processor seconds. How many places are printed is compared with what this script
+knows of the document. Where jq and `serde_json` in Rust are installed, their reading is set against too.
 """
 
 import json
 import pathlib
-import statistics
 import subprocess
 import sys
 import tempfile
 
-from measuring import measured
+from measuring import medians, readers
 
 TOP = pathlib.Path(__file__).resolve().parent.parent
 CRATE = TOP / "crates" / "arz_probe"
 PROGRAM = CRATE / "out" / "arz_probe"
 RUNS = 5
-READ = "import json,sys; json.loads(open(sys.argv[1],'rb').read())"
 SELECT = """
 import json, sys
 from jsonpath_ng.ext import parse
@@ -47,26 +47,31 @@ def has_rival():
     return subprocess.run(probe, stderr=subprocess.DEVNULL).returncode == 0
 
 
-def compare(name, path, query, count, rival):
-    """Measures one query, and prints its ratios."""
+def commands_on(path, query, count, rival, yardsticks):
+    """The commands over one document, by name, with a test of what each prints."""
+    anything = lambda printed: True
+    counted = lambda printed: printed.count(b"\n") == count
     commands = {
-        "program": [str(PROGRAM), "path", str(path), query],
-        "program, reading": [str(PROGRAM), "path", str(path), "$"],
-        "json": [sys.executable, "-c", READ, str(path)],
+        "program": ([str(PROGRAM), "path", str(path), query], counted),
+        "program, reading": ([str(PROGRAM), "path", str(path), "$"], anything),
     }
+    for which, words in yardsticks.items():
+        commands[which] = ([*words, str(path)], b"")
     if rival:
-        commands["rival"] = [sys.executable, "-c", SELECT, str(path), query]
-        commands["rival, reading"] = [sys.executable, "-c", SELECT, str(path), "$"]
-    times = {which: [] for which in commands}
-    for _ in range(RUNS):
-        for which, command in commands.items():
-            seconds, _, printed = measured(command)
-            if which == "program" and printed.count(b"\n") != count:
-                sys.exit(f"{query} gave another number of places than {count}")
-            times[which].append(seconds)
-    time = {which: statistics.median(several) for which, several in times.items()}
+        commands["rival"] = ([sys.executable, "-c", SELECT, str(path), query], anything)
+        commands["rival, reading"] = ([sys.executable, "-c", SELECT, str(path), "$"], anything)
+    return commands
+
+
+def compare(name, folder, query, count, rival, yardsticks):
+    """Measures one query over the document in the folder, and prints its ratios."""
+    path, start = folder / "document.json", folder / "start.json"
+    cost = medians(commands_on(path, query, count, rival, yardsticks), RUNS)
+    begun = medians(commands_on(start, "$", 1, rival, yardsticks), RUNS)
+    time = {which: max(cost[which][0] - begun[which][0], 1e-6) for which in cost}
     print(f"{name}: {query} over {path.stat().st_size} bytes: {time['program']:.3f} s")
-    print(f"  time over Python's json at reading: {time['program'] / time['json']:.2f}")
+    for which in yardsticks:
+        print(f"  time over {which} at reading: {time['program'] / time[which]:.2f}")
     if not rival:
         print("  jsonpath-ng isn't installed: skipped")
         return
@@ -81,12 +86,13 @@ def main():
     build = subprocess.run(["rt", "run"], cwd=CRATE, stdout=subprocess.PIPE, stderr=subprocess.DEVNULL)
     if build.stdout != b"words\n":
         sys.exit(f"the program could not be built; `rt run` in {CRATE} tells why")
-    rival = has_rival()
-    with tempfile.TemporaryDirectory() as name:
-        path = pathlib.Path(name) / "document.json"
+    rival, yardsticks = has_rival(), readers()
+    with tempfile.TemporaryDirectory() as place:
+        folder = pathlib.Path(place)
+        (folder / "start.json").write_text("1")
         for name, document, query, count in documents():
-            path.write_text(json.dumps(document, separators=(",", ":")))
-            compare(name, path, query, count, rival)
+            (folder / "document.json").write_text(json.dumps(document, separators=(",", ":")))
+            compare(name, folder, query, count, rival, yardsticks)
 
 
 main()

@@ -7,25 +7,25 @@ and integers, and prints
 - the time of `unwire`, from the wire form to the document, over that of Python's json module at
   reading the document,
 
-each from medians of five runs in turn. Times are processor seconds. What the program prints is
-compared with the wire form that this script spells itself.
+each from medians of five runs in turn. What each side takes for a document of one integer, its start,
+is taken off. Times are processor seconds. What the program prints is compared with the wire form that
+this script spells itself. Where jq and `serde_json` in Rust are installed, `unwire` is set against their
+reading too.
 """
 
 import json
 import pathlib
-import statistics
 import subprocess
 import sys
 import tempfile
 
-from measuring import measured
+from measuring import medians, readers
 
 TOP = pathlib.Path(__file__).resolve().parent.parent
 CRATE = TOP / "crates" / "arz_probe"
 PROGRAM = CRATE / "out" / "arz_probe"
 LARGEST = 4 * 1024 * 1024
 RUNS = 5
-READ = "import json,sys; json.loads(open(sys.argv[1],'rb').read())"
 READ_AND_PRINT = "import json,sys; json.dumps(json.loads(open(sys.argv[1],'rb').read()))"
 
 
@@ -70,12 +70,20 @@ def spelling(value):
     return b"\x07" + number(len(value)) + b"".join(members)
 
 
-def seconds(command, folder, wanted):
-    """Runs a command that is to print `wanted`, and returns its processor seconds."""
-    time, _, printed = measured(command, folder)
-    if printed != wanted:
-        sys.exit(f"{command[0]} wrote {printed[:200]!r}")
-    return time
+def commands_for(name, text, form, folder, yardsticks):
+    """Writes a document and its wire form, and returns the commands over them with what each prints."""
+    (folder / f"{name}.json").write_bytes(text)
+    (folder / f"{name}.wire").write_bytes(form)
+    digits = form.hex().encode() + b"\n"
+    line = text + b" " + str(len(form)).encode() + b"\n"
+    commands = {
+        "wire": ([str(PROGRAM), "wire", f"{name}.json"], digits),
+        "unwire": ([str(PROGRAM), "unwire", f"{name}.wire"], line),
+        "json reads and prints": ([sys.executable, "-c", READ_AND_PRINT, f"{name}.json"], b""),
+    }
+    for which, words in yardsticks.items():
+        commands[which] = ([*words, f"{name}.json"], b"")
+    return {(which, name): command for which, command in commands.items()}
 
 
 def main():
@@ -85,27 +93,20 @@ def main():
         sys.exit(f"the program could not be built; `rt run` in {CRATE} tells why")
     items, text = document()
     form = spelling(items)
-    digits = form.hex().encode() + b"\n"
-    line = text + b" " + str(len(form)).encode() + b"\n"
-    commands = {
-        "wire": ([str(PROGRAM), "wire", "document.json"], digits),
-        "dumps": ([sys.executable, "-c", READ_AND_PRINT, "document.json"], b""),
-        "unwire": ([str(PROGRAM), "unwire", "document.wire"], line),
-        "loads": ([sys.executable, "-c", READ, "document.json"], b""),
-    }
-    times = {name: [] for name in commands}
+    yardsticks = readers()
     with tempfile.TemporaryDirectory() as place:
         folder = pathlib.Path(place)
-        (folder / "document.json").write_bytes(text)
-        (folder / "document.wire").write_bytes(form)
-        for _ in range(RUNS):
-            for name, (command, wanted) in commands.items():
-                times[name].append(seconds(command, folder, wanted))
-    median = {name: statistics.median(taken) for name, taken in times.items()}
+        commands = commands_for("document", text, form, folder, yardsticks)
+        commands |= commands_for("start", b"1", spelling(1), folder, yardsticks)
+        cost = medians(commands, RUNS, folder)
+    names = {which for which, name in commands}
+    time = {which: cost[which, "document"][0] - cost[which, "start"][0] for which in names}
     print(f"document: {len(text)} bytes; wire form: {len(form)} bytes")
-    print("; ".join(f"{name}: {taken:.3f} s" for name, taken in median.items()))
-    print(f"wire over Python's json: {median['wire'] / median['dumps']:.2f} (aim: at most 1)")
-    print(f"unwire over Python's json: {median['unwire'] / median['loads']:.2f} (aim: at most 1)")
+    print("; ".join(f"{which}: {taken:.3f} s" for which, taken in sorted(time.items())))
+    print(f"wire over Python's json: {time['wire'] / time['json reads and prints']:.2f} (aim: at most 1)")
+    for which in yardsticks:
+        aim = " (aim: at most 1)" if which == "Python's json" else ""
+        print(f"unwire over {which}: {time['unwire'] / time[which]:.2f}{aim}")
 
 
 main()
