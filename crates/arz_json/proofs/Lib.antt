@@ -11,3 +11,5 @@ pub mod Readings
 pub mod Places
 pub mod Trades
 pub mod Puts
+pub mod Answer
+pub mod Splits

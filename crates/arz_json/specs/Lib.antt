@@ -5,3 +5,6 @@ pub mod Writing
 pub mod Pointer
 pub mod Put
 pub mod Look
+pub mod Texts
+pub mod Shallow
+pub mod Answer

@@ -1,5 +1,5 @@
 -- What a tree is, and what stands in it by name (RFC 8259, sections 3 to 5).
-use Rattle.std.specs.Prelude.{ℕ, ℤ, List, Option, Some, None, option_and_then}
+use Rattle.std.specs.Prelude.{ℕ, ℤ, List, [], Option, Some, None, option_and_then, unwrap_or}
 use Rattle.arz_json.specs.Pointer.{member_named}
 use Rattle.arz_json.specs.declared.tree.Json.{Json, out-Json}
 use Rattle.arz_json.specs.declared.tree.Json.TheOpen.{Json-F}
@@ -37,3 +37,13 @@ object_in j = object_step (out-Json j)
 -- the value of an object's member with this name
 abbrev pub member_in : List ℕ → Json → Option Json
 member_in name j = option_and_then (λ ms. member_named ms name) (object_in j)
+
+-- the text, the items or the members that stand under a name, or none
+abbrev pub text_at : List ℕ → Json → List ℕ
+text_at name j = unwrap_or (option_and_then text_in (member_in name j)) []
+
+abbrev pub items_at : List ℕ → Json → List Json
+items_at name j = unwrap_or (option_and_then list_in (member_in name j)) []
+
+abbrev pub members_at : List ℕ → Json → List Member
+members_at name j = unwrap_or (option_and_then object_in (member_in name j)) []

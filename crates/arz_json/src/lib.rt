@@ -21,10 +21,11 @@ mod writer;
 
 pub use compare::same;
 pub use copies::{copy, holds_opaque};
+pub use look::{into_value_named, items_at, members_at, text_at, value_named};
 pub use many::Many;
 pub use placing::{PutFault, is_deeper, put};
 pub use pointer::{array_index, at};
 pub use reader::{JsonFault, read};
-pub use text::{Bytes, Text};
+pub use text::{Bytes, Text, split_once};
 pub use tree::{Json, Location, Member, Members, Named, Refusal, Style};
 pub use writer::{CompactFault, compact, compact_string};

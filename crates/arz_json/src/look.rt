@@ -2,8 +2,9 @@
 ghost use Rattle.std.specs.Prelude.{◌≡◌};
 ghost use Rattle.std.specs.Option.{option_copied};
 ghost use Rattle.arz_json.specs.Pointer.{member_named};
+ghost use Rattle.arz_json.specs.Look.{text_at as text_under, items_at as items_under, members_at as members_under};
 
-use crate::tree::{Json, Member};
+use crate::tree::{Json, Member, Members};
 
 impl Json {
     ghost use Rattle.arz_json.specs.Look.{text_in, int_in, list_in, object_in, member_in};
@@ -57,9 +58,20 @@ impl Json {
             _ => None,
         }
     }
+
+    /// The same by value.
+    pub fn into_member(self, name: &str) -> Option<Json>
+        ensures { result ≡ member_in name.now self }
+    {
+        match self {
+            Json::Object(members) => into_value_named(members, name),
+            _ => None,
+        }
+    }
 }
 
-fn value_named<'a>(members: &'a [Member], name: &str) -> Option<&'a Json>
+/// The value of the first member with this name.
+pub fn value_named<'a>(members: &'a [Member], name: &str) -> Option<&'a Json>
     ensures { option_copied result ≡ member_named members.now name.now }
 {
     for member in members {
@@ -68,4 +80,46 @@ fn value_named<'a>(members: &'a [Member], name: &str) -> Option<&'a Json>
         }
     }
     None
+}
+
+/// The same by value.
+pub fn into_value_named(members: Members, name: &str) -> Option<Json>
+    ensures { result ≡ member_named members name.now }
+{
+    for member in members.into_std() {
+        if member.name.as_str() == name {
+            return Some(member.value);
+        }
+    }
+    None
+}
+
+/// The text of the member with this name, or the empty text.
+pub fn text_at<'a>(tree: &'a Json, name: &str) -> &'a str
+    ensures { result.now ≡ text_under name.now tree.now }
+{
+    match tree.get(name) {
+        Some(value) => value.as_text().unwrap_or(""),
+        None => "",
+    }
+}
+
+/// The items of the member with this name, or none.
+pub fn items_at<'a>(tree: &'a Json, name: &str) -> &'a [Json]
+    ensures { result.now ≡ items_under name.now tree.now }
+{
+    match tree.get(name) {
+        Some(value) => value.as_list().unwrap_or(&[]),
+        None => &[],
+    }
+}
+
+/// The members of the member with this name, or none.
+pub fn members_at<'a>(tree: &'a Json, name: &str) -> &'a [Member]
+    ensures { result.now ≡ members_under name.now tree.now }
+{
+    match tree.get(name) {
+        Some(value) => value.as_object().unwrap_or(&[]),
+        None => &[],
+    }
 }

@@ -1,0 +1,9 @@
+-- Words for texts.
+use Rattle.std.specs.Prelude.{ℕ, ◌==◌, List, length, nat_lt, if◌then◌else◌, Option, Some, None}
+use Rattle.std.specs.List.{position_or_len, before_first, after_first}
+
+-- what stands before and after the first such byte, where one is there
+abbrev pub split_once : ℕ → List ℕ → Option (List ℕ × List ℕ)
+split_once c text =
+    if nat_lt (position_or_len (λ b. b == c) text) (length text)
+    then Some (before_first (λ b. b == c) text, after_first (λ b. b == c) text) else None
