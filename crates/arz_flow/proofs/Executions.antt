@@ -1,5 +1,6 @@
 -- The laws of asks and ends.
-use Rattle.std.proofs.Common.{◌≡◌, ◌≢◌, ℕ, ◌+◌, ◌-◌, ◌≤◌, max, List, [], ◌∷◌, ◌++◌, length, Bool, true, false, if◌then◌else◌, Some, None, ap, refl, sym, ◌∙◌, arith, subst, append-nil, length-append}
+use Rattle.std.proofs.Common.{◌≡◌, ◌≢◌, ℕ, zero, suc, ◌+◌, ◌-◌, ◌≤◌, max, List, [], ◌∷◌, ◌++◌, length, Bool, true, false, if◌then◌else◌, Some, None, ap, refl, sym, ◌∙◌, arith, subst, append-nil, length-append}
+use Rattle.std.specs.Prelude.{slice_get}
 use Rattle.arz_flow.specs.declared.answers.Ask.{Ask}
 use Rattle.arz_flow.specs.declared.answers.Answer.{Answer}
 use Rattle.arz_flow.specs.declared.bundle.Bundle.{Bundle}
@@ -10,7 +11,7 @@ use Rattle.arz_flow.specs.Cases.{Runs, script}
 use Rattle.arz_flow.specs.declared.answers.End.{End}
 use Rattle.arz_flow.specs.declared.answers.End.TheVariants.{Completed as EndCompleted, Broke as EndBroke, Out as EndOut, Stuck as EndStuck}
 use Rattle.arz_flow.specs.Executions.{fits, HasPace, start, execution, pace, fuel, whole, asks_of, end_of, end_of_result, TookAll, asks, end, IsPrefixOf}
-use Rattle.arz_flow.specs.Laws.{OneEnd, OneMore, PrefixFits}
+use Rattle.arz_flow.specs.Laws.{OneEnd, AsManyAsks, OneMore, PrefixFits}
 use Rattle.arz_flow.specs.Stands.{Comes}
 use Rattle.arz_flow.proofs.Below.{Below, play_below}
 use Rattle.arz_flow.proofs.Grows.{Grows, play_grows}
@@ -132,16 +133,37 @@ begins asked n (Out q s) g t = (g.added, sym g.asks)
 begins asked n (Ends c s) g t = (g.added, sym g.asks)
 begins asked n (Gives r s) g t = (g.added, sym g.asks)
 
-goes_on : (ok : Bool) (asked : List Ask) (n : ℕ) (p : Play) → Goes ok asked n p → TookAll p → IsPrefixOf asked (asks_of p)
-goes_on true asked n p g t = begins asked n p g t
+-- a play that took its answers took one for each ask
+counted : (n : ℕ) (p : Play) → Grows [] n p → TookAll p → length (asks_of p) ≡ n
+counted n Spent g t = absurd t
+counted n Lost g t = absurd t
+counted n (Out q s) g t = omega (arith, g.count, ap length g.asks, ap length t)
+counted n (Ends c s) g t = omega (arith, g.count, ap length g.asks, ap length t)
+counted n (Gives r s) g t = omega (arith, g.count, ap length g.asks, ap length t)
+
+pub as_many : AsManyAsks
+as_many b r fit = counted (length r) (whole b r) (play_grows (script b) (fuel (length r)) (Runs b.workflow b.inputs) (start r)) fit
+
+goes_on : (ok : Bool) (asked : List Ask) (n : ℕ) (p : Play) → Goes ok asked n p → TookAll p → (ok ≡ true) × IsPrefixOf asked (asks_of p)
+goes_on true asked n p g t = (refl, begins asked n p g t)
 goes_on false asked n p g t = absurd (subst TookAll g t)
 
-prefix : (w : List ℕ) (x : Answer) (rest : List Answer) (p p' : Play) → Extends (x ∷ rest) p p' → p ≢ Spent → TookAll p' → TookAll p × ((q : Ask) × (end_of w p ≡ Some (EndOut q)) × IsPrefixOf (asks_of p ++ q ∷ []) (asks_of p'))
+prefix : (w : List ℕ) (x : Answer) (rest : List Answer) (p p' : Play) → Extends (x ∷ rest) p p' → p ≢ Spent → TookAll p' → TookAll p × ((q : Ask) × (end_of w p ≡ Some (EndOut q)) × (fits q x ≡ true) × IsPrefixOf (asks_of p ++ q ∷ []) (asks_of p'))
 prefix w x rest Spent p' h n t = absurd (n refl)
 prefix w x rest Lost p' h n t = absurd (subst TookAll h t)
 prefix w x rest (Ends c s) p' h n t = absurd (not_empty s.left x rest (subst TookAll h t))
 prefix w x rest (Gives r s) p' h n t = absurd (not_empty s.left x rest (subst TookAll h t))
-prefix w x rest (Out q s) p' h n t = (h.0, (q, refl, goes_on (fits q x) (s.asked ++ q ∷ []) (length rest) p' h.1 t))
+prefix w x rest (Out q s) p' h n t = let g = goes_on (fits q x) (s.asked ++ q ∷ []) (length rest) p' h.1 t in (h.0, (q, refl, g.0, g.1))
+
+-- the item behind the first ones
+item_behind : (xs : List Ask) (q : Ask) (ys : List Ask) (n : ℕ) → length xs ≡ n → slice_get ((xs ++ q ∷ []) ++ ys) n ≡ Some q
+item_behind [] q ys zero e = refl
+item_behind [] q ys (suc n) e = absurd (omega (arith, e))
+item_behind (x ∷ xs) q ys zero e = absurd (omega (arith, e))
+item_behind (x ∷ xs) q ys (suc n) e = item_behind xs q ys n (omega (arith, e))
+
+number : (xs : List Ask) (q : Ask) (all : List Ask) (n : ℕ) → IsPrefixOf (xs ++ q ∷ []) all → length xs ≡ n → slice_get all n ≡ Some q
+number xs q all n front e = subst (λ l. slice_get l n ≡ Some q) front.1 (item_behind xs q front.0 n e)
 
 pub prefix_fits : PrefixFits
 prefix_fits b p x rest fit =
@@ -149,7 +171,8 @@ prefix_fits b p x rest fit =
     let n_le : fuel (length p) ≤ n = fuel_le (length p) (length (p ++ x ∷ rest)) (omega (arith, length-append p (x ∷ rest))) in
     let ext : Extends (x ∷ rest) (execution b p n) (whole b (p ++ x ∷ rest)) = play_extends (script b) (x ∷ rest) n _ (start p) in
     let ext' : Extends (x ∷ rest) (whole b p) (whole b (p ++ x ∷ rest)) = subst (λ z. Extends (x ∷ rest) z (whole b (p ++ x ∷ rest))) (same_above b p n n_le) ext in
-    prefix b.workflow x rest (whole b p) (whole b (p ++ x ∷ rest)) ext' (over_whole b p) fit
+    let h = prefix b.workflow x rest (whole b p) (whole b (p ++ x ∷ rest)) ext' (over_whole b p) fit in
+    (h.0, (h.1.0, h.1.1, number (asks b p) h.1.0 (asks b (p ++ x ∷ rest)) (length p) h.1.3 (as_many b p h.0), h.1.2, h.1.3))
 
 -- what some fuel comes to is what the whole comes to
 pub comes_whole : (b : Bundle) (r : List Answer) (p : Play) → Comes b r p → p ≢ Spent → whole b r ≡ p

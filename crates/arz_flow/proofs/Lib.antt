@@ -3,6 +3,7 @@ pub mod Grows
 pub mod Extends
 pub mod Bounded
 pub mod Fuel
+pub mod Steady
 pub mod Executions
 pub mod Standing
 pub mod Examples

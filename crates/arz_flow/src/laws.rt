@@ -1,17 +1,22 @@
 //! The laws of asks and ends, which hold of each bundle. None of them has code.
-ghost use Rattle.arz_flow.specs.Laws.{OneEnd, OneMore, PrefixFits};
+ghost use Rattle.arz_flow.specs.Laws.{OneEnd, HasEnd, AsManyAsks, OneMore, PrefixFits};
 
-/// The stated fuel suffices for each list of answers, and more of it gives the same play.
+/// The stated fuel suffices for each list of answers, and more of it gives the same play. Over
+/// answers that fit, a valid bundle's execution has an end.
 pub fn l1()
-    ensures { OneEnd }
+    ensures one_end { OneEnd }
+    ensures has_end { HasEnd }
 {}
 
-/// One more answer that fits takes the ask that was next, and no ask before it changes.
+/// One more answer that fits takes the ask that was next, and no ask before it changes: there are as
+/// many asks as answers.
 pub fn l2()
-    ensures { OneMore }
+    ensures one_more { OneMore }
+    ensures as_many { AsManyAsks }
 {}
 
-/// Each proper prefix of answers that fit ends at the next ask.
+/// Each proper prefix of answers that fit ends at the next ask, whose number is one more than the
+/// prefix has answers.
 pub fn l3()
     ensures { PrefixFits }
 {}

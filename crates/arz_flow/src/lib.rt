@@ -7,8 +7,6 @@ mod facts;
 pub mod laws;
 mod lines;
 mod look;
-#[cfg(test)]
-mod tests;
 
 pub use answers::{Answer, Ask, Cause, End, Spot};
 pub use bundle::{Bundle, NamedText};

@@ -1,5 +1,5 @@
-use Rattle.arz_flow.proofs.Executions.{one_more}
+use Rattle.arz_flow.proofs.Executions.{one_more, as_many}
 use Rattle.arz_flow.proofs.laws.l2.Goals as goal
 
 pub returns : goal.returns
-returns c = one_more
+returns c = record { one_more = one_more; as_many = as_many }
