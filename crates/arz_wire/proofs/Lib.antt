@@ -7,3 +7,4 @@ pub mod Names
 pub mod Found
 pub mod Entered
 pub mod Again
+pub mod Stays

@@ -8,8 +8,6 @@ mod items;
 pub mod laws;
 mod number;
 mod reading;
-#[cfg(test)]
-mod tests;
 mod writing;
 
 pub use entry::{Entry, Mark, decode};

@@ -1,5 +1,5 @@
 ghost use Rattle.std.specs.Prelude.{◌≡◌, ◌<◌, ◌^◌, ◌++◌, ℕ, List, true, length, Ok, take, IfOk};
-ghost use Rattle.arz_wire.specs.Reading.{Gives, name_at, scalar_at, list_at, object_at, tree_at, first_tree, is_above};
+ghost use Rattle.arz_wire.specs.Reading.{Gives, name_at, scalar_at, list_at, object_at, tree_at, first_tree, is_above, place as place_of};
 ghost use Rattle.arz_json.specs.Tree.{IsWellFormed};
 ghost use Rattle.arz_wire.specs.Names.{last_name};
 ghost use Rattle.arz_json.specs.declared.tree.Json.{Json};
@@ -65,6 +65,13 @@ fn scalar_of(alloc: Global, total: usize, tag: u8, rest: &[u8]) -> Result<(Json,
     }
 }
 
+// The first of these bytes is no tag.
+fn no_tag(total: usize, bytes: &[u8]) -> WireFault
+    ensures { result ≡ WireFault.BadTag (place_of total bytes.now) }
+{
+    WireFault::BadTag(place(total, bytes))
+}
+
 #[cycle(read)]
 pub fn tree_of(
     alloc: Global,
@@ -78,7 +85,7 @@ pub fn tree_of(
         return Err(WireFault::Short);
     };
     if *tag > 8 {
-        return Err(WireFault::BadTag(place(total, bytes)));
+        return Err(no_tag(total, bytes));
     }
     if *tag != 6 && *tag != 7 {
         return scalar_of(alloc, total, *tag, rest);

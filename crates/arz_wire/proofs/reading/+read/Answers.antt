@@ -91,8 +91,8 @@ tree_of-returns-in_default t c = ap (tree_at c.args.total c.args.levels) (nil_fr
 pub tree_of-returns-then-tag-gt8 : goal.tree_of-returns-then-tag-gt8
 tree_of-returns-then-tag-gt8 t c =
     let cut = c.in-Some.ensures.cases.0 in
-    ap (tree_at c.args.total c.args.levels) cut ∙ tree_no_tag c.args.total c.args.levels c.in-Some.tag.now c.in-Some.rest.now c.if-tag-gt8.true
-    ∙ ap (λ l. Err (BadTag (place c.args.total l))) (sym cut) ∙ ap (λ n. Err (BadTag n)) (sym c.place.ensures)
+    rw c.no_tag.ensures (ap (tree_at c.args.total c.args.levels) cut ∙ tree_no_tag c.args.total c.args.levels c.in-Some.tag.now c.in-Some.rest.now c.if-tag-gt8.true
+    ∙ ap (λ l. Err (BadTag (place c.args.total l))) (sym cut))
 
 pub tree_of-returns-then-tag-ne7 : goal.tree_of-returns-then-tag-ne7
 tree_of-returns-then-tag-ne7 t c =
@@ -109,7 +109,7 @@ tree_of-returns-then-levels-eq0 t c =
       | tree_of-else-tag-ne6-via-then-tag-ne6+else-tag-ne7 w ↦ tree_deep_at_object a.total a.levels tag rest (omega arith) (omega arith)
       | tree_of-else-tag-ne6-via-else-tag-ne6 w ↦ tree_deep_at_list a.total a.levels tag rest (omega arith) (omega arith)
     ] in
-    ap (tree_at a.total a.levels) cut ∙ deep ∙ ap (λ l. Err (TooDeep (place a.total l))) (sym cut) ∙ ap (λ n. Err (TooDeep n)) (sym c.place-then-levels-eq0.ensures)
+    ap (tree_at a.total a.levels) cut ∙ deep ∙ ap (λ l. Err (TooDeep (place a.total l))) (sym cut) ∙ ap (λ n. Err (TooDeep n)) (sym c.place.ensures)
 
 pub tree_of-returns-in_err-items : goal.tree_of-returns-in_err-items
 tree_of-returns-in_err-items t c =
