@@ -9,8 +9,6 @@ mod pieces;
 mod reading;
 mod syntax;
 mod template;
-#[cfg(test)]
-mod tests;
 mod values;
 
 pub use filling::{FillFault, fill};
