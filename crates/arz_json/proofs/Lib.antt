@@ -2,7 +2,6 @@ pub mod Conversion
 pub mod Tokens
 pub mod Induction
 pub mod Layers
-pub mod Putting
 pub mod Printing
 pub mod Forms
 pub mod Pointers

@@ -1,16 +1,19 @@
-ghost use Rattle.std.specs.Prelude.{◌≡◌, ◌↔◌, map, true, false, IfOk, string_bytes};
+ghost use Rattle.std.specs.Prelude.{◌≡◌, ◌↔◌, map, true, IfOk, OnOk, string_bytes};
+ghost use Rattle.serde.specs.Event.{Logs};
+ghost use Rattle.serde_json.specs.Data.{array, object};
+ghost use Rattle.serde_json.specs.Events.{number_event, SendsValue};
 ghost use Rattle.serde_json.specs.Find.{of_integer};
-ghost use Rattle.serde_json.specs.View.{view, number_view, members_view};
+ghost use Rattle.serde_json.specs.View.{items_of};
 ghost use Rattle.serde_json.specs.Written.{compact_text};
-ghost use Rattle.arz_json.specs.Tree.{IsWellFormed, has_form, has_opaque, is_in_range, are_ordered, all_true};
+ghost use Rattle.arz_json.specs.Tree.{IsWellFormed, has_form, has_opaque, is_in_range, all_true};
 ghost use Rattle.arz_json.specs.Writing.{data_of, named_values};
 
 use crate::copies::holds_opaque;
 use crate::many::Many;
 use crate::text::Bytes;
 use crate::tree::{Json, Members};
-use serde_json::{Map, Number, Value};
-use std::alloc::{AllocError, Global};
+use serde::{Described, Serialize, Serializer};
+use std::alloc::Global;
 use thiserror::Error;
 
 /// Why a tree has no text.
@@ -24,7 +27,8 @@ pub enum CompactFault {
     Memory,
 }
 
-/// The text of a tree with no space (RFC 8259), as `serde_json` prints it.
+/// The text of a tree with no space (RFC 8259), as `serde_json` prints it. It is printed from the tree
+/// itself, so what it takes beside the tree is the text.
 pub fn compact(alloc: Global, value: &Json) -> Result<Bytes, CompactFault>
     requires { IsWellFormed value.now }
     ensures text { IfOk result (λ b. b ≡ compact_text (data_of value.now)) }
@@ -34,7 +38,7 @@ pub fn compact(alloc: Global, value: &Json) -> Result<Bytes, CompactFault>
     if holds_opaque(value) {
         return Err(CompactFault::FractionUsed);
     }
-    match printed(alloc, value) {
+    match serde_json::to_vec(alloc, &Printed { value }) {
         Ok(bytes) => Ok(Bytes::from_std(bytes)),
         Err(_) => Err(CompactFault::Memory),
     }
@@ -50,77 +54,81 @@ pub fn compact_string(alloc: Global, value: &Json) -> Result<String, CompactFaul
     if holds_opaque(value) {
         return Err(CompactFault::FractionUsed);
     }
-    match printed_string(alloc, value) {
+    match serde_json::to_string(alloc, &Printed { value }) {
         Ok(text) => Ok(text),
         Err(_) => Err(CompactFault::Memory),
     }
 }
 
-fn printed_string(alloc: Global, value: &Json) -> Result<String, AllocError>
-    requires { has_form value.now ≡ true }
-    ensures { IfOk result (λ s. string_bytes s ≡ compact_text (data_of value.now)) }
-{
-    to_value(alloc, value)?.to_string(alloc)
+// A tree that `serde_json` prints from where it stands.
+#[derive(Drop)]
+struct Printed<'a> {
+    value: &'a Json,
+    ghost form: { has_form value.now ≡ true },
 }
 
-fn printed(alloc: Global, value: &Json) -> Result<Vec<u8>, AllocError>
-    requires { has_form value.now ≡ true }
-    ensures { IfOk result (λ b. b.items ≡ compact_text (data_of value.now)) }
-{
-    to_value(alloc, value)?.to_vec(alloc)
+impl Described for Printed<'_> {
+    ghost writes = { λ p. SendsValue (data_of p.value.now) };
 }
 
-fn to_number(n: i128) -> Number
-    requires { is_in_range n ≡ true }
-    ensures { number_view result ≡ of_integer n }
-{
-    if n < 0 {
-        Number::from(n as i64)
-    } else {
-        Number::from(n as u64)
+impl Serialize for Printed<'_> {
+    fn serialize<S: Serializer>(&self, out: &mut S) -> Result<(), S::Error> {
+        send(self.value, out)
     }
 }
 
-// The value of `serde_json`. An `Opaque`, which is never printed, stands as null.
-#[cycle(write)]
-fn to_value(alloc: Global, value: &Json) -> Result<Value, AllocError>
+// An `Opaque`, which is never printed, stands as null.
+#[cycle(send)]
+fn send<S: Serializer>(value: &Json, out: &mut S) -> Result<(), S::Error>
     requires { has_form value.now ≡ true }
-    ensures { IfOk result (λ v. view v ≡ data_of value.now) }
+    ensures { OnOk result (SendsValue (data_of value.now) (S.written out.old) (S.written out.new)) }
 {
     match value {
-        Json::Null | Json::Opaque => Ok(Value::Null),
-        Json::Flag(b) => Ok(Value::Bool(*b)),
-        Json::Int(n) => Ok(Value::Number(to_number(*n))),
-        Json::Text(text) => Ok(Value::String(String::from_str(alloc, text.as_str())?)),
-        Json::List(items) => Ok(Value::Array(to_values(alloc, items)?)),
-        Json::Object(members) => Ok(Value::Object(to_map(alloc, members)?)),
+        Json::Null | Json::Opaque => out.unit(),
+        Json::Flag(b) => out.bool(*b),
+        Json::Int(n) => send_integer(*n, out),
+        Json::Text(text) => out.str(text.as_str()),
+        Json::List(items) => send_items(items, out),
+        Json::Object(members) => send_members(members, out),
     }
 }
 
-#[cycle(write)]
-fn to_values(alloc: Global, items: &Many<Json>) -> Result<Vec<Value>, AllocError>
+fn send_integer<S: Serializer>(n: i128, out: &mut S) -> Result<(), S::Error>
+    requires { is_in_range n ≡ true }
+    ensures { OnOk result (Logs (S.written out.old) (S.written out.new)
+        (number_event (of_integer n))) }
+{
+    if n < 0 {
+        out.i64(n as i64)
+    } else {
+        out.u64(n as u64)
+    }
+}
+
+#[cycle(send)]
+fn send_items<S: Serializer>(items: &Many<Json>, out: &mut S) -> Result<(), S::Error>
     requires { all_true (map has_form items.now) ≡ true }
-    ensures { IfOk result (λ vs. map view vs.items ≡ map data_of items.now) }
+    ensures { OnOk result (SendsValue (array (items_of (map data_of items.now)))
+        (S.written out.old) (S.written out.new)) }
 {
-    let mut values = Vec::with_capacity(alloc, items.len())?;
+    out.begin_seq(Some(items.len()))?;
     for item in items.as_slice() {
-        values.push(to_value(alloc, item)?)?;
+        send(item, out)?;
     }
-    Ok(values)
+    out.end_seq()
 }
 
-#[cycle(write)]
-fn to_map(alloc: Global, members: &Members) -> Result<Map<String, Value>, AllocError>
-    requires form { all_true (map (λ m. has_form m.value) members.now) ≡ true }
-    requires order { are_ordered (map (λ m. (m.name, data_of m.value)) members.now) ≡ true }
-    ensures { IfOk result (λ ms. members_view ms.entries
-        ≡ named_values (map (λ m. (m.name, data_of m.value)) members.now)) }
+#[cycle(send)]
+fn send_members<S: Serializer>(members: &Members, out: &mut S) -> Result<(), S::Error>
+    requires { all_true (map (λ m. has_form m.value) members.now) ≡ true }
+    ensures { OnOk result (SendsValue
+        (object (named_values (map (λ m. (m.name, data_of m.value)) members.now)))
+        (S.written out.old) (S.written out.new)) }
 {
-    let mut values = Map::new(alloc);
+    out.begin_map(Some(members.len()))?;
     for member in members.as_slice() {
-        let name = String::from_str(alloc, member.name.as_str())?;
-        let value = to_value(alloc, &member.value)?;
-        values.insert(name, value)?;
+        out.key(member.name.as_str())?;
+        send(&member.value, out)?;
     }
-    Ok(values)
+    out.end_map()
 }
