@@ -19,7 +19,7 @@ use Rattle.arz_query.specs.declared.query.Segment.TheVariants.{Child, Descendant
 use Rattle.arz_query.specs.declared.query.Selector.{Selector}
 use Rattle.arz_query.specs.declared.query.Selector.TheVariants as selector
 use Rattle.arz_query.specs.declared.query.Test.{Test}
-use Rattle.arz_query.specs.declared.query.Test.TheVariants.{Any, All, Neither, Compare}
+use Rattle.arz_query.specs.declared.query.Test.TheVariants.{Any, All, Not, Compare}
 use Rattle.arz_query.specs.declared.query.Operand.TheVariants as operand
 use Rattle.arz_query.specs.declared.query.Start.TheVariants.{Root, Current}
 use Rattle.arz_query.specs.declared.query.Comparison.{Comparison}
@@ -243,9 +243,9 @@ mutual
         IsTerm s t v m → IsBlank t u → IsOperator u w b → IsBlank w a → IsTerm a r o n →
         IsItem s r (term.Logical (Compare (operand_of v) b (operand_of o))) (joined (ill_unless (is_value v) (length s) m) (ill_unless (is_value o) (length a) n))
     group : {s r : List ℕ} {x : Test} {m : Marks} → IsGroup s r x m → IsItem (40 ∷ s) r (term.Logical x) m
-    not_group : {s t r : List ℕ} {x : Test} {m : Marks} → IsBlank s (40 ∷ t) → IsGroup t r x m → IsItem (33 ∷ s) r (term.Logical (Neither (x ∷ []))) m
+    not_group : {s t r : List ℕ} {x : Test} {m : Marks} → IsBlank s (40 ∷ t) → IsGroup t r x m → IsItem (33 ∷ s) r (term.Logical (Not x)) m
     not_alone : {s t r : List ℕ} {v : Term} {x : Test} {m : Marks} →
-        IsBlank s t → IsTerm t r v m → test_of v ≡ Some x → IsItem (33 ∷ s) r (term.Logical (Neither (x ∷ []))) (ill_unless (is_test v) (length t) m)
+        IsBlank s t → IsTerm t r v m → test_of v ≡ Some x → IsItem (33 ∷ s) r (term.Logical (Not x)) (ill_unless (is_test v) (length t) m)
 
   -- "(" S logical-expr S ")", behind its "("
   pub data IsGroup : List ℕ → List ℕ → Test → Marks → Type 0 where

@@ -14,7 +14,7 @@ use Rattle.arz_query.specs.declared.query.Segment.TheVariants.{Child, Descendant
 use Rattle.arz_query.specs.declared.query.Selector.{Selector}
 use Rattle.arz_query.specs.declared.query.Selector.TheVariants as selector
 use Rattle.arz_query.specs.declared.query.Test.{Test}
-use Rattle.arz_query.specs.declared.query.Test.TheVariants.{Any, All, Neither, Compare}
+use Rattle.arz_query.specs.declared.query.Test.TheVariants.{Any, All, Not, Compare}
 use Rattle.arz_query.specs.declared.query.Operand.TheVariants as operand
 use Rattle.arz_query.specs.declared.query.Start.{Start}
 use Rattle.arz_query.specs.declared.query.Start.TheVariants.{Root, Current}
@@ -238,7 +238,7 @@ unfoldable pub group_of : Reader Term → Reader Test
 group_of below s = option_and_then closed (tested below (skip_blanks s))
 
 abbrev pub negated : Read Test → Read Term
-negated = with_value (λ t. term.Logical (Neither (t ∷ [])))
+negated = with_value (λ t. term.Logical (Not t))
 
 -- what follows "!" S
 unfoldable pub negated_of : Reader Term → Reader Term

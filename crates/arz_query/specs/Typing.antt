@@ -73,7 +73,7 @@ abbrev pub no_test : Call
 no_test = (term.Logical (Any []), false)
 
 abbrev pub length_of : Term → Call
-length_of a = (term.Value (operand.Length (operand_of a ∷ [])), is_value a)
+length_of a = (term.Value (operand.Length (operand_of a)), is_value a)
 
 abbrev pub count_of : Term → Call
 count_of (term.Literal o) = no_value

@@ -14,11 +14,11 @@ use crate::pieces::{Flaw, FlawKind, Part, ReadFault};
 use crate::query::{Query, Segment};
 use crate::reading::segments;
 use crate::words::after;
-use arz_json::Many;
+use sqlite_items::Items;
 use std::alloc::Global;
 
 #[tactic(auto, unfolding(crate::specs::Reading::reading))]
-fn whole(alloc: Global, text: &[u8]) -> Result<Part<'_, Many<Segment>>, ReadFault>
+fn whole(alloc: Global, text: &[u8]) -> Result<Part<'_, Items<Segment>>, ReadFault>
     ensures { Gives as_read result (reading text.now) }
 {
     let Some(rest) = after(text, b'$') else {

@@ -9,7 +9,7 @@ use crate::pieces::{Marks, Part, ReadFault};
 use crate::query::{Comparison, Operand, Selector, Test};
 use crate::terms::{Term, ill_unless, is_value, operand};
 use crate::words::{Class, after, after_one, begins, without_blanks};
-use arz_json::Many;
+use sqlite_items::{Boxed, Items};
 use std::alloc::Global;
 
 /// A comparison operator, and what follows it.
@@ -96,10 +96,8 @@ pub(crate) fn negation(alloc: Global, test: Part<'_, Test>) -> Result<Part<'_, T
     ensures { Gives as_read result (Some (negated (as_read test.entry))) }
 {
     let Part { value, marks, rest } = test;
-    let mut tests = Many::new(alloc);
-    tests.push(value)?;
     Ok(Part {
-        value: Term::Logical(Test::Neither(tests)),
+        value: Term::Logical(Test::Not(Boxed::new(alloc, value)?)),
         marks,
         rest,
     })
@@ -138,11 +136,11 @@ pub(crate) fn comma(text: &[u8]) -> Option<&[u8]>
 /// The selectors of a selection whose brackets hold that text.
 pub(crate) fn closed_by<'a>(
     text: &[u8],
-    selectors: Many<Selector>,
+    selectors: Items<Selector>,
     marks: Marks,
     end: &[u8],
     rest: &'a [u8],
-) -> Part<'a, Many<Selector>>
+) -> Part<'a, Items<Selector>>
     ensures { as_read result ≡ closed_selection text.now (record { value = selectors; marks = marks; rest = end.now }) rest.now }
 {
     let tight = !begins(Class::Blank, text) && !begins(Class::Blank, end);

@@ -13,10 +13,10 @@ mod quoted;
 mod reading;
 mod selectors;
 mod terms;
-#[cfg(test)]
-mod tests;
+mod text;
 mod words;
 
 pub use fault::PathFault;
 pub use nesting::MAX_OPEN;
 pub use query::{Comparison, Operand, Query, Segment, Selector, Slice, Start, Test};
+pub use text::Text;

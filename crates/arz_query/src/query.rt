@@ -1,9 +1,10 @@
-use arz_json::{Many, Text};
+use crate::text::Text;
+use sqlite_items::{Boxed, Items};
 
 /// A query (RFC 9535, section 2.1): the segments after `$`.
 #[derive(Debug, Drop)]
 pub struct Query {
-    pub segments: Many<Segment>,
+    pub segments: Items<Segment>,
 }
 
 /// A segment (RFC 9535, section 2.5).
@@ -11,9 +12,9 @@ pub struct Query {
 #[derive(Debug, Drop)]
 pub enum Segment {
     /// Selects among the children of a node (2.5.1).
-    Child(Many<Selector>),
+    Child(Items<Selector>),
     /// Selects among the children of a node and of all its descendants (2.5.2).
-    Descendant(Many<Selector>),
+    Descendant(Items<Selector>),
 }
 
 /// A selector (RFC 9535, section 2.3).
@@ -46,13 +47,13 @@ pub struct Slice {
 #[derive(Debug, Drop)]
 pub enum Test {
     /// `||`: one of them holds.
-    Any(Many<Test>),
+    Any(Items<Test>),
     /// `&&`: each holds.
-    All(Many<Test>),
-    /// `!`: none of them holds (there is one).
-    Neither(Many<Test>),
+    All(Items<Test>),
+    /// `!`: it doesn't hold.
+    Not(Boxed<Test>),
     /// A query selects a node (2.3.5.2.1).
-    Exists(Start, Many<Segment>),
+    Exists(Start, Items<Segment>),
     /// A comparison (2.3.5.2.2).
     Compare(Operand, Comparison, Operand),
     /// `match(text, pattern)`: the whole text matches (2.4.6).
@@ -70,13 +71,13 @@ pub enum Operand {
     Int(i128),
     Text(Text),
     /// A singular query: the value of its node, or nothing (2.3.5.1).
-    Query(Start, Many<Segment>),
-    /// `length(value)` (2.4.4); there is one operand.
-    Length(Many<Operand>),
+    Query(Start, Items<Segment>),
+    /// `length(value)` (2.4.4).
+    Length(Boxed<Operand>),
     /// `count(nodes)` (2.4.5).
-    Count(Start, Many<Segment>),
+    Count(Start, Items<Segment>),
     /// `value(nodes)`: the value of the only node, or nothing (2.4.8).
-    Value(Start, Many<Segment>),
+    Value(Start, Items<Segment>),
 }
 
 /// Where a query of a filter starts (RFC 9535, section 2.3.5.1).

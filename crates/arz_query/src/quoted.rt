@@ -4,8 +4,8 @@ ghost use Rattle.arz_query.specs.Words.{Gives};
 ghost use Rattle.arz_query.specs.Lexical.{hex_digit as hex_digit_of, hex_byte_at, hex_at, low_at, hex_char_at, escaped as escaped_as, escape_at, behind, piece_at, quoted_at};
 
 use crate::pieces::ReadFault;
+use crate::text::Text;
 use crate::words::{after, text_of};
-use arz_json::Text;
 use std::alloc::Global;
 
 fn hex_digit(byte: u8) -> Option<u32>

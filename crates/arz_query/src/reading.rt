@@ -14,7 +14,7 @@ use crate::quoted::quoted;
 use crate::selectors::{numbered, shorthand};
 use crate::terms::{Term, call, ill_unless, test};
 use crate::words::{Class, after, after_two, cut, without_blanks};
-use arz_json::Many;
+use sqlite_items::Items;
 use std::alloc::Global;
 
 #[cycle(read)]
@@ -38,7 +38,7 @@ fn any<'a>(alloc: Global, text: &'a [u8], room: usize) -> Result<Part<'a, Term>,
         return Ok(one);
     }
     let Part { value, marks, rest } = test(alloc, one, text.len())?;
-    let mut tests = Many::new(alloc);
+    let mut tests = Items::new(alloc);
     tests.push(value)?;
     let mut marks = marks;
     let mut rest = rest;
@@ -73,7 +73,7 @@ fn all<'a>(alloc: Global, text: &'a [u8], room: usize) -> Result<Part<'a, Term>,
         return Ok(one);
     }
     let Part { value, marks, rest } = test(alloc, one, text.len())?;
-    let mut tests = Many::new(alloc);
+    let mut tests = Items::new(alloc);
     tests.push(value)?;
     let mut marks = marks;
     let mut rest = rest;
@@ -210,13 +210,13 @@ fn arguments<'a>(
     alloc: Global,
     text: &'a [u8],
     room: usize,
-) -> Result<Part<'a, Many<Term>>, ReadFault>
+) -> Result<Part<'a, Items<Term>>, ReadFault>
     ensures { Gives as_read result (arguments_of (expr_at room) text.now) }
 {
     let text = without_blanks(text);
     if let Some(rest) = after(text, b')') {
         return Ok(Part {
-            value: Many::new(alloc),
+            value: Items::new(alloc),
             marks: Marks::fine(),
             rest,
         });
@@ -230,11 +230,11 @@ fn arguments<'a>(
 
 #[cycle(read)]
 #[tactic(auto, unfolding(crate::specs::Words::items_at))]
-fn terms<'a>(alloc: Global, text: &'a [u8], room: usize) -> Result<Part<'a, Many<Term>>, ReadFault>
+fn terms<'a>(alloc: Global, text: &'a [u8], room: usize) -> Result<Part<'a, Items<Term>>, ReadFault>
     ensures { Gives as_read result (items_at comma_at (expr_at room) text.now) }
 {
     let one = expr(alloc, text, room)?;
-    let mut values = Many::new(alloc);
+    let mut values = Items::new(alloc);
     values.push(one.value)?;
     let mut marks = one.marks;
     let mut rest = one.rest;
@@ -265,10 +265,10 @@ pub(crate) fn segments<'a>(
     alloc: Global,
     text: &'a [u8],
     room: usize,
-) -> Result<Part<'a, Many<Segment>>, ReadFault>
+) -> Result<Part<'a, Items<Segment>>, ReadFault>
     ensures { Gives as_read result (segments_of (expr_at room) text.now) }
 {
-    let mut values = Many::new(alloc);
+    let mut values = Items::new(alloc);
     let mut marks = Marks::fine();
     let mut rest = text;
     for _ in 0..text.len() {
@@ -332,7 +332,7 @@ fn selection<'a>(
     alloc: Global,
     text: &'a [u8],
     room: usize,
-) -> Result<Part<'a, Many<Selector>>, ReadFault>
+) -> Result<Part<'a, Items<Selector>>, ReadFault>
     ensures { Gives as_read result (selection_of (expr_at room) text.now) }
 {
     let Part { value, marks, rest } = selectors(alloc, without_blanks(text), room)?;
@@ -348,11 +348,11 @@ fn selectors<'a>(
     alloc: Global,
     text: &'a [u8],
     room: usize,
-) -> Result<Part<'a, Many<Selector>>, ReadFault>
+) -> Result<Part<'a, Items<Selector>>, ReadFault>
     ensures { Gives as_read result (items_at comma_at (selector_of (expr_at room)) text.now) }
 {
     let one = selector(alloc, text, room)?;
-    let mut values = Many::new(alloc);
+    let mut values = Items::new(alloc);
     values.push(one.value)?;
     let mut marks = one.marks;
     let mut rest = one.rest;

@@ -8,7 +8,7 @@ use crate::numbers::index;
 use crate::pieces::{Marks, Part, ReadFault};
 use crate::query::{Selector, Slice};
 use crate::words::{after, name, without_blanks};
-use arz_json::Many;
+use sqlite_items::Items;
 use std::alloc::Global;
 
 fn begins_number(text: &[u8]) -> bool
@@ -137,10 +137,10 @@ pub(crate) fn numbered(text: &[u8]) -> Result<Part<'_, Selector>, ReadFault>
 
 /// A wildcard or a name without quotes, as selectors.
 #[tactic(auto, unfolding(crate::specs::Reading::shorthand_at))]
-pub(crate) fn shorthand(alloc: Global, text: &[u8]) -> Result<Part<'_, Many<Selector>>, ReadFault>
+pub(crate) fn shorthand(alloc: Global, text: &[u8]) -> Result<Part<'_, Items<Selector>>, ReadFault>
     ensures { Gives as_read result (shorthand_at text.now) }
 {
-    let mut selectors = Many::new(alloc);
+    let mut selectors = Items::new(alloc);
     if let Some(rest) = after(text, b'*') {
         selectors.push(Selector::Wildcard)?;
         return Ok(Part {

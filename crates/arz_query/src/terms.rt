@@ -5,7 +5,7 @@ ghost use Rattle.arz_query.specs.Typing.{ill_unless as ill_marks, operand_of, is
 
 use crate::pieces::{FlawKind, Marks, Part, ReadFault};
 use crate::query::{Operand, Segment, Start, Test};
-use arz_json::Many;
+use sqlite_items::{Boxed, Items};
 use std::alloc::Global;
 
 /// An expression, before it is known where it stands. A query has besides whether it is singular.
@@ -13,7 +13,7 @@ use std::alloc::Global;
 pub(crate) enum Term {
     Literal(Operand),
     Value(Operand),
-    Nodes(Start, Many<Segment>, bool),
+    Nodes(Start, Items<Segment>, bool),
     Logical(Test),
 }
 
@@ -63,7 +63,7 @@ fn test_in(alloc: Global, term: Term) -> Option<Test>
 {
     match term {
         Term::Literal(_) => None,
-        Term::Value(_) => Some(Test::Any(Many::new(alloc))),
+        Term::Value(_) => Some(Test::Any(Items::new(alloc))),
         Term::Nodes(start, segments, _) => Some(Test::Exists(start, segments)),
         Term::Logical(test) => Some(test),
     }
@@ -85,7 +85,7 @@ pub(crate) fn test(
     Ok(Part { value, marks, rest })
 }
 
-fn only(terms: Many<Term>) -> Option<Term>
+fn only(terms: Items<Term>) -> Option<Term>
     ensures { result ≡ only_of terms }
 {
     let mut terms = terms;
@@ -93,7 +93,7 @@ fn only(terms: Many<Term>) -> Option<Term>
     if terms.is_empty() { Some(last) } else { None }
 }
 
-fn pair(terms: Many<Term>) -> Option<(Term, Term)>
+fn pair(terms: Items<Term>) -> Option<(Term, Term)>
     ensures { result ≡ pair_of terms }
 {
     let mut terms = terms;
@@ -112,16 +112,15 @@ fn no_value() -> (Term, bool)
 fn no_test(alloc: Global) -> (Term, bool)
     ensures { result ≡ no_test_call }
 {
-    (Term::Logical(Test::Any(Many::new(alloc))), false)
+    (Term::Logical(Test::Any(Items::new(alloc))), false)
 }
 
 fn length_call(alloc: Global, term: Term) -> Result<(Term, bool), ReadFault>
     ensures { Gives (λ c. c) result (Some (length_of term)) }
 {
     let fits = is_value(&term);
-    let mut operands = Many::new(alloc);
-    operands.push(operand(term))?;
-    Ok((Term::Value(Operand::Length(operands)), fits))
+    let operand = Boxed::new(alloc, operand(term))?;
+    Ok((Term::Value(Operand::Length(operand)), fits))
 }
 
 fn count_call(term: Term) -> (Term, bool)
@@ -166,7 +165,7 @@ fn search_call(terms: (Term, Term)) -> (Term, bool)
 
 /// The call of a function (2.4.4 to 2.4.8), and whether there is such a function and its arguments fit.
 #[tactic(auto, unfolding(crate::specs::Typing::call_of))]
-pub(crate) fn call(alloc: Global, name: &[u8], args: Many<Term>) -> Result<(Term, bool), ReadFault>
+pub(crate) fn call(alloc: Global, name: &[u8], args: Items<Term>) -> Result<(Term, bool), ReadFault>
     ensures { Gives (λ c. c) result (Some (call_of name.now args)) }
 {
     if name == b"length".as_slice() {

@@ -5,7 +5,7 @@ ghost use Rattle.arz_query.specs.Words.{Gives};
 ghost use Rattle.arz_query.specs.Lexical.{is_of, cut as cut_of, skip_blanks, after_byte, after_mark, after_pair, is_next, text_in, name_at};
 
 use crate::pieces::ReadFault;
-use arz_json::Text;
+use crate::text::Text;
 use std::alloc::Global;
 
 /// A kind of byte that words are made of.
@@ -98,8 +98,7 @@ pub(crate) fn text_of(alloc: Global, bytes: &[u8]) -> Result<Text, ReadFault>
     let Ok(text) = str::from_utf8(bytes) else {
         return Err(ReadFault::Syntax);
     };
-    let text = String::from_str(alloc, text)?;
-    Ok(Text::from_std(text))
+    Ok(Text::from_str(alloc, text)?)
 }
 
 /// A name without quotes, and what follows it (`member-name-shorthand`).
