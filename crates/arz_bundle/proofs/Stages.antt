@@ -7,9 +7,8 @@ use Rattle.arz_world.specs.declared.Reply.{Reply}
 use Rattle.arz_flow.specs.declared.bundle.Bundle.{Bundle}
 use Rattle.arz_bundle.specs.declared.fault.LoadFault.{LoadFault}
 use Rattle.arz_bundle.specs.declared.fault.LoadFault.TheVariants.{File, Refused, Memory}
-use Rattle.arz_bundle.specs.declared.files.TheConstants.{FILE_LIMIT}
 use Rattle.arz_bundle.specs.Forms.{is_setup, is_description, is_source, are_replies}
-use Rattle.arz_bundle.specs.Loading.{IsFile, not_built, description_path, source_name, source_path, bundle_of, Formed, Reading, FromSource, FromDescription, Loads, Gives_replies}
+use Rattle.arz_bundle.specs.Loading.{file_limit, IsFile, not_built, description_path, source_name, source_path, bundle_of, Formed, Reading, FromSource, FromDescription, Loads, Gives_replies}
 use Rattle.arz_bundle.specs.FileTree.{HasTree}
 use Rattle.arz_bundle.specs.Replies.{replies_of}
 
@@ -32,7 +31,7 @@ module _ {A : Type 0} (path label : List ℕ) (is_form : Json → Bool) (next wi
 
   Reading-earlier : (before after now : FilesView) → Later before after → Reading after now path label is_form next x → Reading before now path label is_form wider x
   Reading-earlier before after now later (inl (bytes, reads, formed)) =
-      let P : (List ℕ → Told) → Type 0 = λ told. ReadsAs (told path) FILE_LIMIT bytes in
+      let P : (List ℕ → Told) → Type 0 = λ told. ReadsAs (told path) file_limit bytes in
       inl (bytes, subst P later.told reads, Formed-weaker bytes formed)
   Reading-earlier before after now later (inr (inl (rose, is))) = inr (inl (rose-earlier _ _ _ (later.counts path) rose, is))
   Reading-earlier before after now later (inr (inr is)) = inr (inr is)

@@ -11,7 +11,6 @@ use Rattle.arz_flow.specs.declared.bundle.Bundle.{Bundle}
 use Rattle.arz_flow.specs.Documents.{text_at, items_at, members_at}
 use Rattle.arz_bundle.specs.declared.fault.LoadFault.{LoadFault}
 use Rattle.arz_bundle.specs.declared.fault.LoadFault.TheVariants.{File, Refused, Memory}
-use Rattle.arz_bundle.specs.declared.files.TheConstants.{FILE_LIMIT}
 use Rattle.arz_bundle.specs.Forms.{is_setup, is_description, is_source, are_replies}
 use Rattle.arz_bundle.specs.Replies.{replies_of}
 
@@ -48,9 +47,13 @@ bundle_of setup description source = record {
 
 -- ---- the files, one by one
 
+-- the most bytes that a file may have
+abbrev pub file_limit : ℕ
+file_limit = 4194304
+
 -- the file of these bytes is small enough, and this is the tree of its JSON text
 abbrev pub IsFile : List ℕ → Json → Type 0
-IsFile bytes tree = (length bytes ≤ FILE_LIMIT) × Reads bytes tree
+IsFile bytes tree = (length bytes ≤ file_limit) × Reads bytes tree
 
 -- a file of another form than what is built is refused with its label
 abbrev pub not_built : List ℕ → Refusal
@@ -67,7 +70,7 @@ module _ {A : Type 0} where
   -- before, now: what the files show at the call's beginning and end
   abbrev pub Reading : (before now : FilesView) → (path label : List ℕ) → (Json → Bool) → (Json → Result A LoadFault → Type 0) → Result A LoadFault → Type 0
   Reading before now path label is_form next x =
-      ((bytes : List ℕ) × ReadsAs (before.told path) FILE_LIMIT bytes × Formed label is_form next bytes x)
+      ((bytes : List ℕ) × ReadsAs (before.told path) file_limit bytes × Formed label is_form next bytes x)
       ⊎ (Rose (before.faults path) (now.faults path) × (x ≡ Err (File path)))
       ⊎ (x ≡ Err Memory)
 

@@ -8,8 +8,6 @@ mod replies;
 mod setup;
 mod source;
 mod steps;
-#[cfg(test)]
-mod tests;
 mod texts;
 mod values;
 mod words;

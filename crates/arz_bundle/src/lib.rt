@@ -6,9 +6,6 @@ mod files;
 mod forms;
 mod given;
 mod loading;
-#[cfg(test)]
-mod tests;
-
 pub use fault::LoadFault;
 pub use files::FILE_LIMIT;
 pub use given::replies;

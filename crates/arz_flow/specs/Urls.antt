@@ -1,8 +1,7 @@
 -- The URL of a server (OpenAPI 3.1.1, 4.8.5; RFC 9110, 4.2.1): `http://HOST` or `http://HOST:PORT`.
-use Rattle.std.specs.Prelude.{ℕ, ◌==◌, ◌&&◌, ◌||◌, nat_le, nat_eq, Bool, List, [], length, drop, codes, if◌then◌else◌, Option, Some, None, option_map, option_and_then}
+use Rattle.std.specs.Prelude.{ℕ, ◌+◌, ◌-◌, ◌*◌, ◌==◌, ◌&&◌, ◌||◌, not, nat_le, nat_eq, Bool, false, List, [], ◌∷◌, length, drop, codes, if◌then◌else◌, Option, Some, None, option_map}
 use Rattle.std.specs.List.{starts_with, list_all}
-use Rattle.std.specs.Char.{is_ascii_alphanumeric}
-use Rattle.serde_json.specs.Find.{index_of}
+use Rattle.std.specs.Char.{is_ascii_alphanumeric, is_ascii_digit}
 use Rattle.arz_world.specs.declared.Server.{Server}
 use Rattle.arz_flow.specs.Texts.{split_once}
 
@@ -14,13 +13,23 @@ is_host_byte b = is_ascii_alphanumeric b || b == 46 || b == 45
 abbrev pub is_host : List ℕ → Bool
 is_host text = nat_le 1 (length text) && nat_le (length text) 253 && list_all is_host_byte text
 
--- a number 1 to 65535
-abbrev pub port_in : ℕ → Option ℕ
-port_in n = if nat_le 1 n && nat_le n 65535 then Some n else None
+-- the number that decimal digits write behind those of n
+abbrev pub number_after : ℕ → List ℕ → ℕ
+number_after n [] = n
+number_after n (digit ∷ rest) = number_after (n * 10 + (digit - 48)) rest
 
--- the port in decimal digits, without a leading zero
+-- one to five decimal digits, of which the first isn't 0
+abbrev pub is_port : List ℕ → Bool
+is_port [] = false
+is_port (first ∷ rest) = nat_le (length rest) 4 && not (first == 48) && list_all is_ascii_digit (first ∷ rest)
+
+-- a TCP port is at most 65535
+abbrev pub port_in : ℕ → Option ℕ
+port_in n = if nat_le n 65535 then Some n else None
+
+-- the port that a text names: 1 to 65535
 abbrev pub port_of : List ℕ → Option ℕ
-port_of digits = option_and_then port_in (index_of digits)
+port_of digits = if is_port digits then port_in (number_after 0 digits) else None
 
 abbrev pub server_at : List ℕ → ℕ → Server
 server_at host port = record { host = host; port = port; base = [] }

@@ -1,5 +1,4 @@
 pub mod ById
-pub mod Finding
 pub mod First
 pub mod Forms
 pub mod Given
@@ -9,3 +8,4 @@ pub mod Reserved
 pub mod Sizes
 pub mod Taking
 pub mod Shallow
+pub mod Ports

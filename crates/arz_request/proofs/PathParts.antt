@@ -1,11 +1,11 @@
 -- The parts of a path, cut by cut.
-use Rattle.std.proofs.Common.{◌≡◌, ◌≢◌, ℕ, zero, suc, ◌+◌, ◌<◌, Bool, true, false, cond, List, [], ◌∷◌, ◌++◌, map, length, get_or, Option, Some, None, refl, ap, sym, ◌∙◌, arith, add-one, append_assoc, append-nil, length-append}
+use Rattle.std.proofs.Common.{◌≡◌, ◌≢◌, ℕ, suc, ◌+◌, ◌<◌, List, [], ◌∷◌, ◌++◌, map, length, get_or, Some, None, refl, ap, sym, ◌∙◌, arith, append_assoc, append-nil, length-append}
 use Rattle.std.specs.List.{flat_map}
 use Rattle.std.proofs.lemmas.List.Concat.{flat_map-cons}
 use Rattle.std.proofs.lemmas.Bool.{ne_eqb}
 use Rattle.std.proofs.lemmas.Grind.{flat_map-append}
 use Rattle.arz_flow.specs.Texts.{split_once}
-use Rattle.arz_flow.specs.Paths.{Part, Name, Byte, name_before, name_at, part_of, others_of, parts_after, parts}
+use Rattle.arz_flow.specs.Paths.{Part, Name, Byte, name_before, name_at, parts_after, parts}
 use Rattle.arz_flow.specs.Requests.{Given, expanded_part, expanded}
 
 -- none of the bytes is c

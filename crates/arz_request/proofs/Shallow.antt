@@ -1,8 +1,7 @@
 -- What a template gives, and what a request is made of, nests at most 127 deep.
-use Rattle.std.proofs.Common.{◌≡◌, ◌≤◌, Bool, true, false, nat_lt, if◌then◌else◌, All, Option, Some, None, Result, Ok, Err, refl, ap, ◌∙◌, subst}
+use Rattle.std.proofs.Common.{◌≡◌, ◌≤◌, Bool, true, false, nat_lt, if◌then◌else◌, All, Option, Some, None, Result, Ok, Err, refl, ap, subst}
 use Rattle.std.proofs.lemmas.Bool.{ltb-false}
-use Rattle.std.specs.Option.{ForSome}
-use Rattle.arz_json.specs.Tree.{depth, IsWithin, IsWellFormed}
+use Rattle.arz_json.specs.Tree.{depth, IsWellFormed}
 use Rattle.arz_json.specs.declared.Json.{Json}
 use Rattle.arz_world.specs.declared.Request.{Request}
 use Rattle.arz_expr.specs.Filling.{Fault, TooNested, and_then, within_depth, with_values, filled}

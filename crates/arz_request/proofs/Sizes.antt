@@ -1,5 +1,5 @@
 -- A request whose target is too large is too large.
-use Rattle.std.proofs.Common.{◌≡◌, ℕ, ◌<◌, ◌≤◌, ◌+◌, List, ◌++◌, length, length-append, codes, nat_le, Bool, true, false, Err, arith, ap, refl, sym, ◌∙◌}
+use Rattle.std.proofs.Common.{◌≡◌, ℕ, ◌<◌, ◌≤◌, List, ◌++◌, length, length-append, codes, nat_le, false, Err, arith, ap, sym, ◌∙◌}
 use Rattle.std.specs.List.{flat_map}
 use Rattle.std.proofs.lemmas.Bool.{cond-false}
 use Rattle.std.proofs.lemmas.Bool.Decides.{nat_tests}
@@ -7,7 +7,6 @@ use Rattle.arz_world.specs.declared.Request.{Request}
 use Rattle.arz_flow.specs.declared.answers.Cause.TheVariants.{RequestTooLarge}
 use Rattle.arz_flow.specs.Bytes.{request_bytes, request_line, request_limit, header_line, line_end, body_of}
 use Rattle.arz_flow.specs.Documents.{Operation}
-use Rattle.arz_flow.specs.Outcomes.{Made}
 use Rattle.arz_flow.specs.Requests.{Given, expanded, request_to, within_limit}
 use Rattle.arz_request.specs.declared.faults.BuildFault.{BuildFault}
 use Rattle.arz_request.specs.declared.faults.BuildFault.TheVariants.{Stuck, Memory}

@@ -1,7 +1,6 @@
 -- What one cut of a path holds.
 use Rattle.std.specs.Prelude.{ℕ, List, [], ◌∷◌, ◌++◌, map, Option, Some, None}
 use Rattle.std.specs.Option.{option_copied}
-use Rattle.std.specs.List.{flat_map}
 use Rattle.arz_flow.specs.Paths.{Part, Name, Byte}
 use Rattle.arz_flow.specs.Requests.{Given, expanded_part}
 use Rattle.arz_request.specs.declared.paths.Cut.{Cut}

@@ -12,11 +12,8 @@ mod style;
 mod urls;
 
 pub use faults::BuildFault;
-pub use operations::{OperationAt, Operations, find_in};
+pub use operations::{OperationAt, Operations};
 pub use paths::{Cut, next_cut};
 pub use requests::{request, steps, workflow};
 pub use style::{StyleFault, simple};
 pub use urls::{Authority, authority_of};
-
-#[cfg(test)]
-mod tests;

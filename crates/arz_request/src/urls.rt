@@ -1,10 +1,9 @@
 // The server that a URL names.
 ghost use Rattle.std.specs.Prelude.{◌≡◌, option_map};
 ghost use Rattle.std.specs.List.{list_all};
-ghost use Rattle.arz_flow.specs.Urls.{server_of, server_with, is_host as is_host_text, is_host_byte as is_byte_of_host, port_of, port_in};
+ghost use Rattle.std.specs.Char.{is_ascii_digit};
+ghost use Rattle.arz_flow.specs.Urls.{server_of, server_with, is_host as is_host_text, is_host_byte as is_byte_of_host, port_of, is_port as is_port_text};
 ghost use Rattle.arz_request.specs.Authority.{server_seen};
-
-use arz_json::array_index;
 
 /// A host and a port, as a URL names them.
 #[derive(Clone, Copy)]
@@ -43,20 +42,27 @@ fn with_port(host: &str, port: Option<u16>) -> Option<Authority<'_>>
 fn read_port(digits: &str) -> Option<u16>
     ensures { result ≡ port_of digits.now }
 {
-    match array_index(digits) {
-        Some(n) => port_within(n),
-        None => None,
-    }
-}
-
-fn port_within(n: usize) -> Option<u16>
-    ensures { result ≡ port_in n }
-{
-    if 1 <= n && n <= 65535 {
-        Some(n as u16)
+    if is_port(digits.as_bytes()) {
+        digits.parse().ok()
     } else {
         None
     }
+}
+
+// Whether these are one to five digits without a leading zero.
+fn is_port(digits: &[u8]) -> bool
+    ensures { result ≡ is_port_text digits.now }
+{
+    match digits {
+        [] => false,
+        [first, rest @ ..] => rest.len() <= 4 && *first != b'0' && are_digits(digits),
+    }
+}
+
+fn are_digits(bytes: &[u8]) -> bool
+    ensures { result ≡ list_all is_ascii_digit bytes.now }
+{
+    bytes.iter().all(u8::is_ascii_digit)
 }
 
 fn is_host(text: &str) -> bool

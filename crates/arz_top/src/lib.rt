@@ -9,6 +9,3 @@ mod words;
 pub use ending::Ending;
 pub use run::run_words;
 pub use words::Command;
-
-#[cfg(test)]
-mod tests;

@@ -8,9 +8,6 @@ mod memory_files;
 mod memory_sink;
 mod messages;
 mod sink;
-#[cfg(test)]
-mod tests;
-
 pub use calls::note_fault;
 pub use files::{FileFault, Files};
 pub use memory_files::{MemoryFiles, NamedBytes};

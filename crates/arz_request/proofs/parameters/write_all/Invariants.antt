@@ -1,5 +1,4 @@
-use Rattle.std.proofs.Common.{◌≡◌, codes, drop}
-use Rattle.arz_flow.specs.Documents.{items_at}
+use Rattle.std.proofs.Common.{◌≡◌, drop}
 use Rattle.arz_flow.specs.Requests.{all_given}
 use Rattle.arz_request.proofs.Given.{behind}
 use Rattle.arz_request.proofs.parameters.write_all.Given as goal

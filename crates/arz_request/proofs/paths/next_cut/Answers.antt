@@ -1,4 +1,4 @@
-use Rattle.std.proofs.Common.{◌≡◌, arith}
+use Rattle.std.proofs.Common.{arith}
 use Rattle.std.proofs.lemmas.Str.Pattern.{split_parts}
 use Rattle.arz_request.proofs.PathParts.{parts-all, cut-name, cut-open}
 use Rattle.arz_request.proofs.paths.next_cut.Goals as goal

@@ -1,4 +1,4 @@
-use Rattle.std.proofs.Common.{◌≡◌, List, ℕ, Option, Some, None, Bor, find, bytes_eq, option_map, refl, ap, ◌∙◌}
+use Rattle.std.proofs.Common.{◌≡◌, Option, Some, None, Bor, find, bytes_eq, option_map, refl, ap, ◌∙◌}
 use Rattle.std.specs.Option.{option_copied}
 use Rattle.arz_flow.specs.Requests.{Given}
 use Rattle.arz_request.proofs.names.ByName.find.Goals as goal

@@ -1,4 +1,3 @@
-use Rattle.std.proofs.Common.{take}
 use Rattle.arz_request.proofs.First.{holds-next}
 use Rattle.arz_request.proofs.names.ByName.of.Goals as goal
 
