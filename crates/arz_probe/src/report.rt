@@ -5,7 +5,8 @@ ghost use Rattle.hex.specs.Hex.{encode_lower};
 ghost use Rattle.arz_json.specs.declared.tree.Json.{Json};
 ghost use Rattle.arz_json.specs.Tree.{IsWellFormed};
 ghost use Rattle.arz_wire.specs.declared.fault.WireFault.{WireFault};
-ghost use Rattle.arz_wire.specs.Reading.{Fails};
+ghost use Rattle.arz_json.specs.Answer.{Fails};
+ghost use Rattle.arz_wire.specs.Reading.{told};
 ghost use Rattle.arz_probe.specs.Reports.{line, good, refused as refusal, placed, tree_in, wire_form, unwire_of, unwire_form, words_form, file_form};
 
 use arz_json::{Bytes, CompactFault, Json, JsonFault, compact, read as read_json};
@@ -102,7 +103,7 @@ fn counted_line(text: Bytes, taken: usize) -> Result<Report, AllocError>
 
 // The line of a fault, whichever bytes give it. Want of memory is told as such.
 fn fault_report(alloc: Global, fault: WireFault) -> Result<Report, AllocError>
-    ensures { IfOk result (λ r. (given : Result (Json × ℕ) WireFault) → Fails fault given
+    ensures { IfOk result (λ r. (given : Result (Json × ℕ) WireFault) → Fails (told fault) given
         → r ≡ unwire_of given) }
 {
     match fault {

@@ -13,7 +13,8 @@ use Rattle.arz_json.proofs.Layers.{folded-List, folded-Object, values_of-map, me
 use Rattle.arz_json.proofs.Places.{depth_object}
 use Rattle.arz_wire.specs.Spelling.{number_within, number, counted, spelling, spellings, member_spellings}
 use Rattle.arz_wire.specs.Texts.{has_texts, texts_step, names_are_texts}
-use Rattle.arz_wire.specs.Reading.{◌>>=◌, Front, number_front, number_if, number_at, largest_number, text_if, text_at, is_above, name_if, name_at, items_at, members_at, scalar_at, tree_at, counted_bytes, first_tree}
+use Rattle.arz_json.specs.Answer.{◌>>=◌}
+use Rattle.arz_wire.specs.Reading.{Front, number_front, number_if, number_at, largest_number, text_if, text_at, is_above, name_if, name_at, items_at, members_at, scalar_at, tree_at, counted_bytes, first_tree}
 use Rattle.arz_wire.proofs.Numbers.{reach}
 use Rattle.arz_wire.proofs.Layers.{spelling_null, spelling_false, spelling_true, spelling_int, spelling_text, spelling_list, spelling_object, spelling_opaque}
 use Rattle.arz_wire.proofs.Once.{spelled}

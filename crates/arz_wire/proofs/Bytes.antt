@@ -5,7 +5,8 @@ use Rattle.std.specs.Str.{is_utf8}
 use Rattle.std.proofs.lemmas.Str.{IsUtf8-from_is_utf8, is_utf8-from_IsUtf8}
 use Rattle.std.proofs.lemmas.Bool.{le-ltb}
 use Rattle.arz_wire.specs.declared.fault.WireFault.TheVariants.{NotCanonical}
-use Rattle.arz_wire.specs.Reading.{◌>>=◌, place, number_at, largest_number, text_if, text_at}
+use Rattle.arz_json.specs.Answer.{◌>>=◌}
+use Rattle.arz_wire.specs.Reading.{place, number_at, largest_number, text_if, text_at}
 use Rattle.arz_wire.specs.Bounds.{bound}
 
 pub bound_least : (k : ℕ) → 256 ≤ bound k

@@ -11,7 +11,8 @@ use Rattle.arz_wire.specs.declared.fault.WireFault.{WireFault}
 use Rattle.arz_wire.specs.declared.fault.WireFault.TheVariants.{Short, BadTag, NotCanonical}
 use Rattle.arz_wire.specs.declared.entry.Entry.{Entry}
 use Rattle.arz_wire.specs.declared.entry.Entry.TheVariants.{Start, Begun, Held, Served}
-use Rattle.arz_wire.specs.Reading.{◌>>=◌, Gives, place, tree_at}
+use Rattle.arz_json.specs.Answer.{◌>>=◌, Gives}
+use Rattle.arz_wire.specs.Reading.{place, tree_at, told}
 use Rattle.arz_wire.specs.Entries.{IsSound, IsEntry, entry_spelling, number_at_front, closed_at, whole, tagged_entry, entry_of}
 use Rattle.arz_wire.proofs.Again.{tree_again}
 use Rattle.arz_wire.proofs.Found.{IsBytes, IsBytes-rest, IsBytes-take, bind_ok, guard_ok, ok_is, tree_takes}
@@ -91,11 +92,11 @@ unfolding entry_of
 entry_takes [] x fits e = absurd (cc)
 entry_takes (tag ∷ rest) x fits e = entry_read (length (tag ∷ rest)) tag rest x (IsBytes-rest tag rest fits) e
 
-pub is_spelt : (payload : List ℕ) (r : Result Entry WireFault) → IsBytes payload → Gives (λ x. x) r (entry_of payload) → IfOk r (λ x. payload ≡ entry_spelling x)
+pub is_spelt : (payload : List ℕ) (r : Result Entry WireFault) → IsBytes payload → Gives (λ x. x) told r (entry_of payload) → IfOk r (λ x. payload ≡ entry_spelling x)
 is_spelt payload (Ok x) fits given = (entry_takes payload x fits given).spelt
 is_spelt payload (Err e) fits given = tt
 
-pub is_sound : (payload : List ℕ) (r : Result Entry WireFault) → IsBytes payload → Gives (λ x. x) r (entry_of payload) → IfOk r IsSound
+pub is_sound : (payload : List ℕ) (r : Result Entry WireFault) → IsBytes payload → Gives (λ x. x) told r (entry_of payload) → IfOk r IsSound
 is_sound payload (Ok x) fits given = (entry_takes payload x fits given).sound
 is_sound payload (Err e) fits given = tt
 

@@ -15,7 +15,8 @@ use Rattle.arz_json.proofs.Places.{depth_object}
 use Rattle.arz_wire.specs.declared.fault.WireFault.{WireFault}
 use Rattle.arz_wire.specs.declared.fault.WireFault.TheVariants.{Short, NotCanonical}
 use Rattle.arz_wire.specs.Spelling.{number_within, number, counted, spelling, spellings, member_spellings}
-use Rattle.arz_wire.specs.Reading.{◌>>=◌, Front, Reader, place, lone, more_of, number_front, number_if, number_at, largest_number, text_if, text_at, is_above, name_if, name_at, items_at, members_at, list_at, object_at, nested, tagged, level_at, tree_at, counted_bytes, first_tree, Gives}
+use Rattle.arz_json.specs.Answer.{◌>>=◌, Gives}
+use Rattle.arz_wire.specs.Reading.{Front, Reader, place, lone, more_of, number_front, number_if, number_at, largest_number, text_if, text_at, is_above, name_if, name_at, items_at, members_at, list_at, object_at, nested, tagged, level_at, tree_at, counted_bytes, first_tree, told}
 use Rattle.arz_wire.proofs.Numbers.{number_within-last, number_within-suc}
 use Rattle.arz_wire.proofs.Layers.{spelling_null, spelling_false, spelling_true, spelling_int, spelling_text, spelling_list, spelling_object, spelling_opaque}
 
@@ -383,10 +384,10 @@ first_takes bytes v n fits e =
     subst (λ (p : Json × ℕ). IsFirst bytes p.0 p.1) (ok_is made (v, n) a.2)
     (record { spelt = ap (take (length bytes - length rest)) t.takes.parts ∙ take_at (spelling w) rest (length bytes - length rest) len; well = record { form = t.form; nests = t.nests } })
 
-pub is_spelt : (bytes : List ℕ) (r : Result (Json × ℕ) WireFault) → IsBytes bytes → Gives (λ x. x) r (first_tree bytes) → IfOk r (λ x. take x.1 bytes ≡ spelling x.0)
+pub is_spelt : (bytes : List ℕ) (r : Result (Json × ℕ) WireFault) → IsBytes bytes → Gives (λ x. x) told r (first_tree bytes) → IfOk r (λ x. take x.1 bytes ≡ spelling x.0)
 is_spelt bytes (Ok x) fits given = (first_takes bytes x.0 x.1 fits given).spelt
 is_spelt bytes (Err e) fits given = tt
 
-pub is_well_formed : (bytes : List ℕ) (r : Result (Json × ℕ) WireFault) → IsBytes bytes → Gives (λ x. x) r (first_tree bytes) → IfOk r (λ x. IsWellFormed x.0)
+pub is_well_formed : (bytes : List ℕ) (r : Result (Json × ℕ) WireFault) → IsBytes bytes → Gives (λ x. x) told r (first_tree bytes) → IfOk r (λ x. IsWellFormed x.0)
 is_well_formed bytes (Ok x) fits given = (first_takes bytes x.0 x.1 fits given).well
 is_well_formed bytes (Err e) fits given = tt

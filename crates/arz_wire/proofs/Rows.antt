@@ -7,7 +7,8 @@ use Rattle.arz_json.specs.declared.tree.Json.{Json}
 use Rattle.arz_json.specs.declared.tree.Member.{Member}
 use Rattle.arz_wire.specs.declared.fault.WireFault.{WireFault}
 use Rattle.arz_wire.specs.declared.fault.WireFault.TheVariants.{Short, BadTag, NotCanonical, TooDeep, Memory}
-use Rattle.arz_wire.specs.Reading.{◌>>=◌, Fails, Front, Reader, place, number_at, largest_number, name_at, items_at, members_at, list_at, object_at, scalar_at, tree_at}
+use Rattle.arz_json.specs.Answer.{◌>>=◌}
+use Rattle.arz_wire.specs.Reading.{Front, Reader, place, number_at, largest_number, name_at, items_at, members_at, list_at, object_at, scalar_at, tree_at}
 use Rattle.arz_wire.specs.Names.{last_name}
 
 -- what was read before, and what is still read
@@ -17,13 +18,6 @@ with_front front read = read >>= λ x. Ok (front ++ x.0, x.1)
 regroup : {A : Type 0} (front : List A) (n : A) (read : Front (List A)) → with_front front (read >>= λ x. Ok (n ∷ x.0, x.1)) ≡ with_front (front ++ n ∷ []) read
 regroup {A} front n (Ok x) = ap (λ (ns : List A). Ok (ns, x.1)) (sym (append_assoc front (n ∷ []) x.0))
 regroup front n (Err f) = refl
-
-pub fails : {A B : Type 0} (e : WireFault) (read : Result A WireFault) (total : Result B WireFault) → ((f : WireFault) → read ≡ Err f → total ≡ Err f) → Fails e read → Fails e total
-fails Memory read total h e = tt
-fails Short read total h e = h Short e
-fails (BadTag n) read total h e = h (BadTag n) e
-fails (NotCanonical n) read total h e = h (NotCanonical n) e
-fails (TooDeep n) read total h e = h (TooDeep n) e
 
 -- ---- items
 

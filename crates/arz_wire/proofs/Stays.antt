@@ -10,7 +10,8 @@ use Rattle.arz_json.specs.Tree.{max_depth}
 use Rattle.arz_json.specs.declared.tree.Json.{Json}
 use Rattle.arz_wire.specs.declared.fault.WireFault.{WireFault}
 use Rattle.arz_wire.specs.declared.fault.WireFault.TheVariants.{Short, BadTag, NotCanonical, TooDeep, Memory}
-use Rattle.arz_wire.specs.Reading.{◌>>=◌, Front, Reader, place, lone, more_of, number_front, number_if, number_at, largest_number, text_if, text_at, is_above, name_at, items_at, members_at, list_at, object_at, scalar_at, tree_at, counted_bytes, first_tree}
+use Rattle.arz_json.specs.Answer.{◌>>=◌}
+use Rattle.arz_wire.specs.Reading.{Front, Reader, place, lone, more_of, number_front, number_if, number_at, largest_number, text_if, text_at, is_above, name_at, items_at, members_at, list_at, object_at, scalar_at, tree_at, counted_bytes, first_tree}
 use Rattle.arz_wire.proofs.Rows.{tree_no_tag}
 
 -- ---- bytes that are no tag, end no number and stand in no text

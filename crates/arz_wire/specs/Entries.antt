@@ -8,7 +8,8 @@ use Rattle.arz_wire.specs.declared.fault.WireFault.{WireFault}
 use Rattle.arz_wire.specs.declared.fault.WireFault.TheVariants.{Short, BadTag, NotCanonical}
 use Rattle.arz_wire.specs.declared.entry.Entry.{Entry}
 use Rattle.arz_wire.specs.declared.entry.Entry.TheVariants.{Start, Begun, Held, Served}
-use Rattle.arz_wire.specs.Reading.{◌>>=◌, Front, place, tree_at}
+use Rattle.arz_json.specs.Answer.{◌>>=◌}
+use Rattle.arz_wire.specs.Reading.{Front, place, tree_at}
 
 -- a number of an ask has four bytes, big-endian; a message goes to the end
 abbrev pub entry_spelling : Entry → List ℕ

@@ -4,6 +4,7 @@ use Rattle.std.specs.Prelude.{◌≡◌, ℕ, zero, suc, ◌+◌, ◌*◌, ◌-�
 use Rattle.std.specs.Str.{is_utf8}
 use Rattle.std.specs.Ordering.{nat_cmp, is_lt}
 use Rattle.std.specs.Cmp.Lexicographic.{slice_cmp}
+use Rattle.arz_json.specs.Answer.{◌>>=◌}
 use Rattle.arz_json.specs.Tree.{max_depth}
 use Rattle.arz_json.specs.declared.tree.Json.{Json}
 use Rattle.arz_json.specs.declared.tree.Json.TheVariants.{Null, Flag, Int, Text, List as ListOf, Object, Opaque}
@@ -11,22 +12,13 @@ use Rattle.arz_json.specs.declared.tree.Member.{Member}
 use Rattle.arz_wire.specs.declared.fault.WireFault.{WireFault}
 use Rattle.arz_wire.specs.declared.fault.WireFault.TheVariants.{Short, BadTag, NotCanonical, TooDeep, Memory}
 
-infixl 10 ◌>>=◌
-abbrev pub ◌>>=◌ : {A B : Type 0} → Result A WireFault → (A → Result B WireFault) → Result B WireFault
-(Ok x) >>= f = f x
-(Err e) >>= f = Err e
-
--- what a function returned, seen by view, is what the bytes give, unless memory ran out
-abbrev pub Fails : {Y : Type 0} → WireFault → Result Y WireFault → Type 0
-Fails Memory given = Unit {0}
-Fails Short given = given ≡ Err Short
-Fails (BadTag n) given = given ≡ Err (BadTag n)
-Fails (NotCanonical n) given = given ≡ Err (NotCanonical n)
-Fails (TooDeep n) given = given ≡ Err (TooDeep n)
-
-abbrev pub Gives : {X Y : Type 0} → (X → Y) → Result X WireFault → Result Y WireFault → Type 0
-Gives view (Ok x) given = given ≡ Ok (view x)
-Gives view (Err e) given = Fails e given
+-- the fault that is told of bytes; want of memory is none of theirs
+abbrev pub told : WireFault → Option WireFault
+told Memory = None
+told Short = Some Short
+told (BadTag n) = Some (BadTag n)
+told (NotCanonical n) = Some (NotCanonical n)
+told (TooDeep n) = Some (TooDeep n)
 
 -- an item that stands at the front, and the bytes after it
 abbrev pub Front : Type 0 → Type 0

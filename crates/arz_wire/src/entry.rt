@@ -1,7 +1,8 @@
 //! Entries of a journal, and the bytes that hold them.
 
 ghost use Rattle.std.specs.Prelude.{◌≡◌, ◌<◌, ◌^◌, length, Ok, IfOk};
-ghost use Rattle.arz_wire.specs.Reading.{Gives};
+ghost use Rattle.arz_json.specs.Answer.{Gives};
+ghost use Rattle.arz_wire.specs.Reading.{told};
 ghost use Rattle.arz_wire.specs.declared.entry.Entry.{Entry};
 ghost use Rattle.arz_wire.specs.Entries.{IsSound, IsEntry, entry_spelling, number_at_front, closed_at, end_at, entry_of};
 
@@ -45,16 +46,16 @@ pub fn decode(alloc: Global, payload: &[u8]) -> Result<Entry, WireFault>
     ensures spelt { IfOk result (λ e. payload.now ≡ entry_spelling e) }
     ensures sound { IfOk result IsSound }
     // What is spelled so is read, unless memory runs out.
-    ensures only { (e : Entry) → IsEntry e → payload.now ≡ entry_spelling e → Gives (λ r. r) result (Ok e) }
+    ensures only { (e : Entry) → IsEntry e → payload.now ≡ entry_spelling e → Gives (λ r. r) told result (Ok e) }
     // Which fault it is, and that nothing else is one.
-    ensures exact { Gives (λ e. e) result (entry_of payload.now) }
+    ensures exact { Gives (λ e. e) told result (entry_of payload.now) }
 {
     entry_in(alloc, payload)
 }
 
 #[tactic(auto, unfolding(crate::specs::Entries::entry_of))]
 fn entry_in(alloc: Global, payload: &[u8]) -> Result<Entry, WireFault>
-    ensures exact { Gives (λ e. e) result (entry_of payload.now) }
+    ensures exact { Gives (λ e. e) told result (entry_of payload.now) }
     ensures room { length payload.now < 2 ^ 64 }
 {
     let total = payload.len();
@@ -86,7 +87,7 @@ fn entry_in(alloc: Global, payload: &[u8]) -> Result<Entry, WireFault>
 }
 
 fn u32_front(bytes: &[u8]) -> Result<(u32, &[u8]), WireFault>
-    ensures { Gives (λ x. (x.0, x.1.now)) result (number_at_front bytes.now) }
+    ensures { Gives (λ x. (x.0, x.1.now)) told result (number_at_front bytes.now) }
 {
     if bytes.len() < 4 {
         return Err(WireFault::Short);
@@ -98,7 +99,7 @@ fn u32_front(bytes: &[u8]) -> Result<(u32, &[u8]), WireFault>
 
 #[tactic(auto, unfolding(crate::specs::Entries::closed_at))]
 fn closed_front(total: usize, bytes: &[u8]) -> Result<(bool, &[u8]), WireFault>
-    ensures { Gives (λ x. (x.0, x.1.now)) result (closed_at total bytes.now) }
+    ensures { Gives (λ x. (x.0, x.1.now)) told result (closed_at total bytes.now) }
 {
     match bytes {
         [] => Err(WireFault::Short),
@@ -109,7 +110,7 @@ fn closed_front(total: usize, bytes: &[u8]) -> Result<(bool, &[u8]), WireFault>
 }
 
 fn ended(total: usize, rest: &[u8]) -> Result<(), WireFault>
-    ensures { Gives (λ x. x) result (end_at total rest.now) }
+    ensures { Gives (λ x. x) told result (end_at total rest.now) }
 {
     if rest.is_empty() {
         Ok(())

@@ -1,6 +1,7 @@
 // Numbers, texts and names at the front of bytes.
 ghost use Rattle.std.specs.Prelude.{◌≡◌, ◌≤◌, ◌<◌, option_map, IfSome};
-ghost use Rattle.arz_wire.specs.Reading.{Gives, number_front as front_of_number, number_at, text_at, place as place_of};
+ghost use Rattle.arz_json.specs.Answer.{Gives};
+ghost use Rattle.arz_wire.specs.Reading.{number_front as front_of_number, number_at, text_at, place as place_of, told};
 ghost use Rattle.arz_wire.specs.Bounds.{bound};
 
 use crate::fault::WireFault;
@@ -30,7 +31,7 @@ fn number_front(more: u8, bytes: &[u8]) -> Option<(u128, bool, &[u8])>
 }
 
 pub fn number_of(total: usize, most: u64, bytes: &[u8]) -> Result<(u64, &[u8]), WireFault>
-    ensures { Gives (λ x. (x.0, x.1.now)) result (number_at total most bytes.now) }
+    ensures { Gives (λ x. (x.0, x.1.now)) told result (number_at total most bytes.now) }
 {
     let Some((n, shortest, rest)) = number_front(9, bytes) else {
         return Err(WireFault::Short);
@@ -44,7 +45,7 @@ pub fn number_of(total: usize, most: u64, bytes: &[u8]) -> Result<(u64, &[u8]), 
 
 #[tactic(auto, unfolding(crate::specs::Reading::text_at))]
 pub fn text_of(alloc: Global, total: usize, bytes: &[u8]) -> Result<(Text, &[u8]), WireFault>
-    ensures { Gives (λ x. (x.0, x.1.now)) result (text_at total bytes.now) }
+    ensures { Gives (λ x. (x.0, x.1.now)) told result (text_at total bytes.now) }
 {
     let (len, rest) = number_of(total, u64::MAX, bytes)?;
     if (rest.len() as u64) < len {

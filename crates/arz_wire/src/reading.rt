@@ -1,5 +1,6 @@
 ghost use Rattle.std.specs.Prelude.{◌≡◌, ◌<◌, ◌^◌, ◌++◌, ℕ, List, true, length, Ok, take, IfOk};
-ghost use Rattle.arz_wire.specs.Reading.{Gives, name_at, scalar_at, list_at, object_at, tree_at, first_tree, is_above, place as place_of};
+ghost use Rattle.arz_json.specs.Answer.{Gives};
+ghost use Rattle.arz_wire.specs.Reading.{name_at, scalar_at, list_at, object_at, tree_at, first_tree, is_above, place as place_of, told};
 ghost use Rattle.arz_json.specs.Tree.{IsWellFormed};
 ghost use Rattle.arz_wire.specs.Names.{last_name};
 ghost use Rattle.arz_json.specs.declared.tree.Json.{Json};
@@ -31,7 +32,7 @@ fn name_of<'a>(
     members: &[Member],
     bytes: &'a [u8],
 ) -> Result<(Text, &'a [u8]), WireFault>
-    ensures { Gives (λ x. (x.0, x.1.now)) result (name_at total (last_name members.now) bytes.now) }
+    ensures { Gives (λ x. (x.0, x.1.now)) told result (name_at total (last_name members.now) bytes.now) }
 {
     let (name, rest) = text_of(alloc, total, bytes)?;
     if above_last(members, &name) {
@@ -43,7 +44,7 @@ fn name_of<'a>(
 }
 
 fn scalar_of(alloc: Global, total: usize, tag: u8, rest: &[u8]) -> Result<(Json, &[u8]), WireFault>
-    ensures { Gives (λ x. (x.0, x.1.now)) result (scalar_at total tag rest.now) }
+    ensures { Gives (λ x. (x.0, x.1.now)) told result (scalar_at total tag rest.now) }
 {
     match tag {
         0 => Ok((Json::Null, rest)),
@@ -79,7 +80,7 @@ pub fn tree_of(
     levels: u8,
     bytes: &[u8],
 ) -> Result<(Json, &[u8]), WireFault>
-    ensures { Gives (λ x. (x.0, x.1.now)) result (tree_at total levels bytes.now) }
+    ensures { Gives (λ x. (x.0, x.1.now)) told result (tree_at total levels bytes.now) }
 {
     let Some((tag, rest)) = bytes.split_first() else {
         return Err(WireFault::Short);
@@ -109,7 +110,7 @@ fn items_of(
     levels: u8,
     bytes: &[u8],
 ) -> Result<(Many<Json>, &[u8]), WireFault>
-    ensures { Gives (λ x. (x.0, x.1.now)) result (list_at (tree_at total levels) total bytes.now) }
+    ensures { Gives (λ x. (x.0, x.1.now)) told result (list_at (tree_at total levels) total bytes.now) }
 {
     let (count, front) = number_of(total, u64::MAX, bytes)?;
     let mut items = Vec::new(alloc);
@@ -129,7 +130,7 @@ fn members_of(
     levels: u8,
     bytes: &[u8],
 ) -> Result<(Members, &[u8]), WireFault>
-    ensures { Gives (λ x. (x.0, x.1.now)) result (object_at (tree_at total levels) total bytes.now) }
+    ensures { Gives (λ x. (x.0, x.1.now)) told result (object_at (tree_at total levels) total bytes.now) }
 {
     let (count, front) = number_of(total, u64::MAX, bytes)?;
     let mut members = Vec::new(alloc);
@@ -145,7 +146,7 @@ fn members_of(
 
 #[tactic(auto, unfolding(crate::specs::Reading::first_tree))]
 fn first_of(alloc: Global, bytes: &[u8]) -> Result<(Json, usize), WireFault>
-    ensures exact { Gives (λ x. x) result (first_tree bytes.now) }
+    ensures exact { Gives (λ x. x) told result (first_tree bytes.now) }
     ensures room { length bytes.now < 2 ^ 64 }
 {
     let (tree, rest) = tree_of(alloc, bytes.len(), MAX_LEVELS, bytes)?;
@@ -160,9 +161,9 @@ pub fn read(alloc: Global, bytes: &[u8]) -> Result<(Json, usize), WireFault>
     ensures well_formed { IfOk result (λ r. IsWellFormed r.0) }
     // What is spelled so is read, whatever follows, unless memory runs out.
     ensures only { (v : Json) (rest : List ℕ) → IsWellFormed v → has_texts v ≡ true
-        → bytes.now ≡ spelling v ++ rest → Gives (λ r. r) result (Ok (v, length (spelling v))) }
+        → bytes.now ≡ spelling v ++ rest → Gives (λ r. r) told result (Ok (v, length (spelling v))) }
     // Which fault it is, and that nothing else is one.
-    ensures exact { Gives (λ r. r) result (first_tree bytes.now) }
+    ensures exact { Gives (λ r. r) told result (first_tree bytes.now) }
 {
     first_of(alloc, bytes)
 }

@@ -1,5 +1,6 @@
 use Rattle.std.proofs.Common.{length, ap, subst, ◌∙◌, arith}
-use Rattle.arz_wire.specs.Reading.{Gives}
+use Rattle.arz_json.specs.Answer.{Gives}
+use Rattle.arz_wire.specs.Reading.{told}
 use Rattle.arz_wire.specs.Entries.{entry_of}
 use Rattle.arz_wire.proofs.Entered.{is_spelt, is_sound, entry_again}
 use Rattle.arz_wire.proofs.entry.decode.Goals as goal
@@ -12,4 +13,4 @@ returns-clause-sound c = is_sound c.args.payload.now c.entry_in.result (λ i. om
 
 pub returns-clause-only : goal.returns-clause-only
 returns-clause-only c =
-    λ e h is. subst (λ g. Gives (λ r. r) c.entry_in.result g) (ap entry_of is ∙ entry_again e h (omega (arith, ap length is, c.entry_in.ensures.room))) c.entry_in.ensures.exact
+    λ e h is. subst (λ g. Gives (λ r. r) told c.entry_in.result g) (ap entry_of is ∙ entry_again e h (omega (arith, ap length is, c.entry_in.ensures.room))) c.entry_in.ensures.exact

@@ -3,9 +3,11 @@ use Rattle.std.proofs.lemmas.Result.{err_from_is_err_and}
 use Rattle.std.proofs.lemmas.List.{nil_from_length}
 use Rattle.arz_json.specs.declared.tree.Json.TheVariants.{List as ListOf, Object}
 use Rattle.arz_wire.specs.declared.fault.WireFault.TheVariants.{BadTag, TooDeep}
-use Rattle.arz_wire.specs.Reading.{◌>>=◌, place, number_at, largest_number, name_at, list_at, object_at, tree_at}
+use Rattle.arz_json.specs.Answer.{◌>>=◌}
+use Rattle.arz_json.proofs.Answer.{fails}
+use Rattle.arz_wire.specs.Reading.{place, number_at, largest_number, name_at, list_at, object_at, tree_at, told}
 use Rattle.arz_wire.specs.Names.{last_name}
-use Rattle.arz_wire.proofs.Rows.{fails, items_init, items_go_on, items_end, items_done, members_init, members_go_on, members_end_name, members_end_value, members_done, list_counted, list_refused, object_counted, object_refused, tree_none, tree_no_tag, tree_scalar, tree_deep_at_list, tree_deep_at_object, tree_at_list, tree_at_object}
+use Rattle.arz_wire.proofs.Rows.{items_init, items_go_on, items_end, items_done, members_init, members_go_on, members_end_name, members_end_value, members_done, list_counted, list_refused, object_counted, object_refused, tree_none, tree_no_tag, tree_scalar, tree_deep_at_list, tree_deep_at_object, tree_at_list, tree_at_object}
 use Rattle.arz_wire.proofs.reading.+read.Goals.{tree_of-else-tag-ne6-via-then-tag-ne6+else-tag-ne7, tree_of-else-tag-ne6-via-else-tag-ne6}
 use Rattle.arz_wire.proofs.reading.+read.Goals as goal
 
@@ -13,7 +15,7 @@ pub items_of-returns-in_err-count : goal.items_of-returns-in_err-count
 items_of-returns-in_err-count t c =
     let p = err_from_is_err_and c.from_residual.result c.from_residual.ensures.1 in
     let a = c.args in
-    rw (p.1, p.2) (fails c.in_err-count.field-0.0 (number_at a.total largest_number a.bytes.now) (list_at (tree_at a.total a.levels) a.total a.bytes.now)
+    rw (p.1, p.2) (fails (told c.in_err-count.field-0.0) (number_at a.total largest_number a.bytes.now) (list_at (tree_at a.total a.levels) a.total a.bytes.now)
     (λ f e. list_refused (tree_at a.total a.levels) a.total a.bytes.now f e) c.in_err-count.ensures)
 
 pub items_of-loop-init : goal.items_of-loop-init
@@ -24,7 +26,7 @@ items_of-returns-in_err-item t c =
     let p = err_from_is_err_and c.from_residual-in_err-item.result c.from_residual-in_err-item.ensures.1 in
     let a = c.args in
     let inside = tree_at a.total a.levels in
-    rw (p.1, p.2) (fails c.in_err-item.field-0.0 (inside c.loop.rest.now) (list_at inside a.total a.bytes.now)
+    rw (p.1, p.2) (fails (told c.in_err-item.field-0.0) (inside c.loop.rest.now) (list_at inside a.total a.bytes.now)
     (λ f e. list_counted inside a.total a.bytes.now c.in_ok-count.count c.in_ok-count.front.now c.in_ok-count.ensures
     ∙ items_end inside c.loop.items.items c.in_ok-count.count c.loop.counter c.loop.rest.now f _ c.loop-test.true e c.loop.invariant)
     c.in_err-item.ensures)
@@ -44,7 +46,7 @@ pub members_of-returns-in_err-count : goal.members_of-returns-in_err-count
 members_of-returns-in_err-count t c =
     let p = err_from_is_err_and c.from_residual.result c.from_residual.ensures.1 in
     let a = c.args in
-    rw (p.1, p.2) (fails c.in_err-count.field-0.0 (number_at a.total largest_number a.bytes.now) (object_at (tree_at a.total a.levels) a.total a.bytes.now)
+    rw (p.1, p.2) (fails (told c.in_err-count.field-0.0) (number_at a.total largest_number a.bytes.now) (object_at (tree_at a.total a.levels) a.total a.bytes.now)
     (λ f e. object_refused (tree_at a.total a.levels) a.total a.bytes.now f e) c.in_err-count.ensures)
 
 pub members_of-loop-init : goal.members_of-loop-init
@@ -55,7 +57,7 @@ members_of-returns-in_err-name t c =
     let p = err_from_is_err_and c.from_residual-in_err-name.result c.from_residual-in_err-name.ensures.1 in
     let a = c.args in
     let inside = tree_at a.total a.levels in
-    rw (p.1, p.2) (fails c.in_err-name.field-0.0 (name_at a.total (last_name c.as_slice.result.now) c.loop.rest.now) (object_at inside a.total a.bytes.now)
+    rw (p.1, p.2) (fails (told c.in_err-name.field-0.0) (name_at a.total (last_name c.as_slice.result.now) c.loop.rest.now) (object_at inside a.total a.bytes.now)
     (λ f e. object_counted inside a.total a.bytes.now c.in_ok-count.count c.in_ok-count.front.now c.in_ok-count.ensures
     ∙ members_end_name inside a.total c.loop.members.items c.in_ok-count.count c.loop.counter c.loop.rest.now f _ c.loop-test.true
     (ap (λ ms. name_at a.total (last_name ms) c.loop.rest.now) (sym c.as_slice.ensures.value) ∙ e) c.loop.invariant)
@@ -66,7 +68,7 @@ members_of-returns-in_err-value t c =
     let p = err_from_is_err_and c.from_residual-in_err-value.result c.from_residual-in_err-value.ensures.1 in
     let a = c.args in
     let inside = tree_at a.total a.levels in
-    rw (p.1, p.2) (fails c.in_err-value.field-0.0 (inside c.in_ok-name.after.now) (object_at inside a.total a.bytes.now)
+    rw (p.1, p.2) (fails (told c.in_err-value.field-0.0) (inside c.in_ok-name.after.now) (object_at inside a.total a.bytes.now)
     (λ f e. object_counted inside a.total a.bytes.now c.in_ok-count.count c.in_ok-count.front.now c.in_ok-count.ensures
     ∙ members_end_value inside a.total c.loop.members.items c.in_ok-count.count c.loop.counter c.loop.rest.now c.in_ok-name.name c.in_ok-name.after.now f _ c.loop-test.true
     (ap (λ ms. name_at a.total (last_name ms) c.loop.rest.now) (sym c.as_slice.ensures.value) ∙ c.in_ok-name.ensures) e c.loop.invariant)
@@ -116,7 +118,7 @@ tree_of-returns-in_err-items t c =
     let p = err_from_is_err_and c.from_residual.result c.from_residual.ensures.1 in
     let a = c.args in
     let rest = c.in-Some.rest.now in
-    rw (p.1, p.2) (fails c.in_err-items.field-0.0 (list_at (tree_at a.total (a.levels - 1)) a.total rest) (tree_at a.total a.levels a.bytes.now)
+    rw (p.1, p.2) (fails (told c.in_err-items.field-0.0) (list_at (tree_at a.total (a.levels - 1)) a.total rest) (tree_at a.total a.levels a.bytes.now)
     (λ f e. ap (tree_at a.total a.levels) c.in-Some.ensures.cases.0 ∙ tree_at_list a.total a.levels c.in-Some.tag.now rest (omega arith) (omega arith) ∙ ap (λ r. r >>= λ x. Ok (ListOf x.0, x.1)) e)
     c.in_err-items.ensures)
 
@@ -130,7 +132,7 @@ tree_of-returns-in_err-members t c =
       | tree_of-else-tag-ne6-via-then-tag-ne6+else-tag-ne7 w ↦ omega arith
       | tree_of-else-tag-ne6-via-else-tag-ne6 w ↦ omega arith
     ] in
-    rw (p.1, p.2) (fails c.in_err-members.field-0.0 (object_at (tree_at a.total (a.levels - 1)) a.total rest) (tree_at a.total a.levels a.bytes.now)
+    rw (p.1, p.2) (fails (told c.in_err-members.field-0.0) (object_at (tree_at a.total (a.levels - 1)) a.total rest) (tree_at a.total a.levels a.bytes.now)
     (λ f e. ap (tree_at a.total a.levels) c.in-Some.ensures.cases.0 ∙ tree_at_object a.total a.levels tag rest (omega arith) seven ∙ ap (λ r. r >>= λ x. Ok (Object x.0, x.1)) e)
     c.in_err-members.ensures)
 
