@@ -5,12 +5,8 @@
 
 mod paths;
 mod query_report;
-#[cfg(test)]
-mod query_tests;
 mod regex_patterns;
 mod report;
-#[cfg(test)]
-mod tests;
 
 use query_report::{iregexp_report, path_report};
 use regex_patterns::RegexPatterns;

@@ -1,0 +1,32 @@
+//! Tries the cases of the files that its words name: each case calls a public call over forms in
+//! memory, and what it comes to is compared with what the case expects.
+#![tactic(auto)]
+
+mod call;
+mod case;
+mod expressions;
+mod fault;
+mod messages;
+mod outcome;
+mod outside;
+mod paths;
+mod patterns;
+mod queries;
+mod requests;
+mod table;
+mod top;
+mod trees;
+mod wires;
+
+use std::process::ExitCode;
+use std::{env, io};
+use table::{Totals, try_file};
+
+fn main(rt: HostRuntime) -> io::Result<ExitCode> {
+    let mut totals = Totals::default();
+    for file in env::args(&rt)?.skip(1) {
+        try_file(&rt, file.as_str(), &mut totals)?;
+    }
+    println!(rt; "{} passed, {} failed", totals.passed, totals.failed)?;
+    Ok(ExitCode::from(u8::from(totals.failed > 0)))
+}

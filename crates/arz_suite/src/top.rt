@@ -1,0 +1,24 @@
+// The top call.
+use crate::case::Case;
+use crate::fault::CaseFault;
+use crate::outcome::Outcome;
+use crate::outside::{files_of, sink_of};
+use arz_top::run_words;
+use std::alloc::Global;
+
+/// Runs `words` over the case's files.
+pub fn words(alloc: Global, case: &Case<'_>) -> Result<Outcome, CaseFault> {
+    let mut words = Vec::new(alloc);
+    for word in case.items("words") {
+        let word = word.as_str().ok_or(CaseFault::Malformed("words"))?;
+        words.push(String::from_str(alloc, word)?)?;
+    }
+    let mut files = files_of(alloc, case)?;
+    let mut out = sink_of(alloc, case)?;
+    let status = run_words(alloc, &words, &mut files, &mut out);
+    let text = out.bytes().to_vec(alloc)?;
+    Ok(Outcome {
+        text,
+        status: Some(status),
+    })
+}
