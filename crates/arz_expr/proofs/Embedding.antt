@@ -2,10 +2,11 @@
 use Rattle.std.proofs.Common.{◌≡◌, ℕ, zero, suc, Bool, true, not, ◌==◌, List, [], ◌∷◌, ◌++◌, Option, Result, Ok, Err, refl, ap, sym, ◌∙◌, arith, append_assoc}
 use Rattle.std.specs.List.{list_all}
 use Rattle.std.proofs.lemmas.Bool.{and_parts, and_from, eqb-false, not-true}
+use Rattle.arz_json.specs.Answer.{◌>>=◌}
 use Rattle.arz_json.specs.declared.tree.Json.{Json}
 use Rattle.arz_expr.specs.Grammar.{Reads}
 use Rattle.arz_expr.specs.Reading.{chosen}
-use Rattle.arz_expr.specs.Filling.{Fault, Embedded, mapped, and_then, resolved, embedded, text_of_piece, joined, mixed, filled_text, pieces}
+use Rattle.arz_expr.specs.Filling.{Fault, Embedded, mapped, resolved, embedded, text_of_piece, joined, mixed, filled_text, pieces}
 use Rattle.arz_json.specs.declared.tree.Json.TheVariants.{Text}
 use Rattle.arz_expr.specs.declared.syntax.Base.{Base}
 use Rattle.arz_expr.specs.declared.syntax.Expr.{Expr}
@@ -41,21 +42,21 @@ unfolding filled_text
 text-expression found text e reads = ap (λ (o : Option Expr). chosen o (resolved found) (mapped Text (mixed found text))) (reading-complete text e reads)
 
 before : (plain : List ℕ) (r s : Result (List ℕ) Fault)
-    → and_then (λ t. mapped (λ u. t ++ u) s) (mapped (λ t. plain ++ t) r) ≡ and_then (λ t. mapped (λ u. plain ++ (t ++ u)) s) r
+    → (mapped (λ t. plain ++ t) r >>= (λ t. mapped (λ u. t ++ u) s)) ≡ (r >>= (λ t. mapped (λ u. plain ++ (t ++ u)) s))
 before plain (Ok t) (Ok u) = ap Ok (append_assoc plain t u)
 before plain (Ok t) (Err f) = refl
 before plain (Err f) s = refl
 
 -- an expression in braces, where no `}` stands before it
 pub text-embedded : (found : Base → Option Json) (plain text rest : List ℕ) (e : Expr) → Reads text e → is_unclosed plain ≡ true
-    → mixed found (plain ++ 123 ∷ (text ++ 125 ∷ rest)) ≡ and_then (λ t. mapped (λ u. plain ++ (t ++ u)) (mixed found rest)) (and_then embedded (resolved found e))
+    → mixed found (plain ++ 123 ∷ (text ++ 125 ∷ rest)) ≡ (resolved found e >>= embedded >>= (λ t. mapped (λ u. plain ++ (t ++ u)) (mixed found rest)))
 text-embedded found plain text rest e reads free =
     let whole = plain ++ 123 ∷ (text ++ 125 ∷ rest) in
     let front = plain ++ 123 ∷ text in
     let unclosed : is_unclosed front ≡ true = unclosed-append plain (123 ∷ text) free (unclosed-plain text (plain-reads text e reads)) in
     let cut = cut-embedded whole front rest plain text e (sym (append_assoc plain (123 ∷ text) (125 ∷ rest))) (lacks-brace front unclosed) refl (reading-complete text e reads) in
     ap (joined found) cut.0 ∙ joined-append found _ (pieces rest)
-    ∙ ap (and_then (λ t. mapped (λ u. t ++ u) (mixed found rest))) (joined-behind found plain (Embedded e))
+    ∙ ap (λ (r : Result (List ℕ) Fault). r >>= (λ t. mapped (λ u. t ++ u) (mixed found rest))) (joined-behind found plain (Embedded e))
     ∙ before plain (text_of_piece found (Embedded e)) (mixed found rest)
 
 -- a text without `}`

@@ -3,11 +3,12 @@ use Rattle.std.proofs.Common.{◌≡◌, ℕ, ◌+◌, drop, Bool, true, ◌&&�
 use Rattle.std.proofs.lemmas.Bool.{and_parts, and_from}
 use Rattle.arz_json.specs.Tree.{has_form, form_step, all_true, are_ordered, is_below_first}
 use Rattle.arz_json.specs.Writing.{data_of}
+use Rattle.arz_json.specs.Answer.{◌>>=◌}
 use Rattle.arz_json.specs.declared.tree.Json.{Json}
 use Rattle.arz_json.specs.declared.tree.Json.TheVariants.{Object}
 use Rattle.arz_json.specs.declared.tree.Member.{Member}
 use Rattle.arz_json.proofs.Layers.{folded-Object, values_of-map, members_order, pair_of}
-use Rattle.arz_expr.specs.Filling.{Fault, mapped, and_then, all_of, filled_member, fill_step, with_values}
+use Rattle.arz_expr.specs.Filling.{Fault, mapped, all_of, filled_member, fill_step, with_values}
 use Rattle.arz_expr.specs.declared.syntax.Base.{Base}
 
 module _ {A B : Type 0} (f : A → Result B Fault) (form : A → Bool) (gave : B → Bool) where
@@ -25,7 +26,7 @@ module _ {A B : Type 0} (f : A → Result B Fault) (form : A → Bool) (gave : B
       → mapped (λ others. (done ++ b ∷ []) ++ others) (all_of (map f rest)) ≡ mapped (λ others. done ++ others) (all_of (map f (x ∷ rest)))
   on done x b rest is =
       behind done b (all_of (map f rest))
-      ∙ sym (ap (λ (r : Result B Fault). mapped (λ others. done ++ others) (and_then (λ a. mapped (λ others. a ∷ others) (all_of (map f rest))) r)) is)
+      ∙ sym (ap (λ (r : Result B Fault). mapped (λ others. done ++ others) (r >>= (λ a. mapped (λ others. a ∷ others) (all_of (map f rest))))) is)
 
   gave-push : (done : List B) (b : B) → all_true (map gave done) ≡ true → gave b ≡ true → all_true (map gave (done ++ b ∷ [])) ≡ true
   gave-push [] b h k = and_from (gave b) true k refl
@@ -56,7 +57,7 @@ module _ (found : Base → Option Json) where
   with_values-object ms = folded-Object (Result Json Fault) (fill_step found) ms ∙ ap (λ (rs : List (Result Member Fault)). mapped Object (all_of rs)) (members-of ms)
 
   names-step : (m : Member) (names : List (List ℕ)) (r : Result Json Fault) (rs : Result (List Member) Fault) (ns : List Member)
-      → and_then (λ a. mapped (λ others. a ∷ others) rs) (filled_member (m.name, r)) ≡ Ok ns → ((os : List Member) → rs ≡ Ok os → map (λ n. n.name) os ≡ names) → map (λ n. n.name) ns ≡ m.name ∷ names
+      → (filled_member (m.name, r) >>= (λ a. mapped (λ others. a ∷ others) rs)) ≡ Ok ns → ((os : List Member) → rs ≡ Ok os → map (λ n. n.name) os ≡ names) → map (λ n. n.name) ns ≡ m.name ∷ names
   names-step m names (Ok v) (Ok os) ns h rest =
       let is : ns ≡ record { name = m.name; value = v } ∷ os = cc in ap (map (λ n. n.name)) is ∙ ap (λ others. m.name ∷ others) (rest os refl)
   names-step m names (Ok v) (Err e) ns h rest = absurd (cc)

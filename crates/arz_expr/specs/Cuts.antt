@@ -11,17 +11,12 @@ use Rattle.arz_expr.specs.declared.filling.FillFault.{FillFault}
 use Rattle.arz_expr.specs.declared.filling.FillFault.TheVariants as fault
 use Rattle.arz_expr.specs.declared.pieces.Cut.{Cut}
 
--- the fault that the definition gives, or want of memory
-abbrev pub Fails : {B : Type 0} → FillFault → Result B Fault → Type 0
-Fails fault.Unresolved given = given ≡ Err Unresolved
-Fails fault.FractionUsed given = given ≡ Err FractionUsed
-Fails fault.TooNested given = given ≡ Err TooNested
-Fails fault.Memory given = Unit {0}
-
--- the value that the definition gives, seen by view, or its fault, or want of memory
-abbrev pub Gives : {A B : Type 0} → (A → B) → Result A FillFault → Result B Fault → Type 0
-Gives view (Ok a) given = given ≡ Ok (view a)
-Gives view (Err e) given = Fails e given
+-- the fault of the definition that is meant; want of memory is none
+abbrev pub told : FillFault → Option Fault
+told fault.Unresolved = Some Unresolved
+told fault.FractionUsed = Some FractionUsed
+told fault.TooNested = Some TooNested
+told fault.Memory = None
 
 -- no `{` of the text begins an expression that ends where the text ends
 abbrev pub OpensNone : List ℕ → Type 0

@@ -1,9 +1,10 @@
 -- What a template gives (Arazzo 1.0.1, 4.7): a tree of JSON in which a text may be an expression, or hold
 -- expressions in braces. `found` gives what each base names.
-use Rattle.std.specs.Prelude.{ℕ, ◌+◌, ◌==◌, nat_lt, zero, suc, Bool, List, [], ◌∷◌, map, length, codes, if◌then◌else◌, Option, Some, None, option_map, option_and_then, ok_or, Result, Ok, Err}
+use Rattle.std.specs.Prelude.{ℕ, ◌+◌, ◌==◌, nat_lt, zero, suc, Bool, List, [], ◌∷◌, ◌++◌, map, length, codes, if◌then◌else◌, Option, Some, None, option_map, option_and_then, ok_or, Result, Ok, Err}
 use Rattle.std.specs.List.{concat}
 use Rattle.std.specs.Fmt.{signed_decimal}
 use Rattle.serde_json.specs.Written.{compact_text}
+use Rattle.arz_json.specs.Answer.{◌>>=◌}
 use Rattle.arz_json.specs.Tree.{depth, has_opaque, member_step}
 use Rattle.arz_json.specs.Writing.{data_of}
 use Rattle.arz_json.specs.declared.tree.Json.{Json, out-Json}
@@ -29,14 +30,10 @@ abbrev pub mapped : {A B : Type 0} → (A → B) → Result A Fault → Result B
 mapped f (Ok a) = Ok (f a)
 mapped f (Err e) = Err e
 
-abbrev pub and_then : {A B : Type 0} → (A → Result B Fault) → Result A Fault → Result B Fault
-and_then f (Ok a) = f a
-and_then f (Err e) = Err e
-
 -- all of them, or the first fault
 abbrev pub all_of : {A : Type 0} → List (Result A Fault) → Result (List A) Fault
 all_of [] = Ok []
-all_of (r ∷ rs) = and_then (λ a. mapped (λ others. a ∷ others) (all_of rs)) r
+all_of (r ∷ rs) = r >>= λ a. mapped (λ others. a ∷ others) (all_of rs)
 
 -- the value that an expression stands for
 abbrev pub resolved : (Base → Option Json) → Expr → Result Json Fault
@@ -95,8 +92,12 @@ abbrev pub embedded : Json → Result (List ℕ) Fault
 embedded j = if has_opaque j then Err FractionUsed else Ok (rendered j)
 
 abbrev pub text_of_piece : (Base → Option Json) → Piece → Result (List ℕ) Fault
-text_of_piece found (Embedded e) = and_then embedded (resolved found e)
+text_of_piece found (Embedded e) = resolved found e >>= embedded
 text_of_piece found (Byte b) = Ok (b ∷ [])
+
+-- the text of a value, between what stands before it and what follows
+abbrev pub between : List ℕ → Result (List ℕ) Fault → Result (List ℕ) Fault → Result (List ℕ) Fault
+between before value after = value >>= λ text. mapped (λ more. before ++ (text ++ more)) after
 
 -- the pieces one after another
 unfoldable pub joined : (Base → Option Json) → List Piece → Result (List ℕ) Fault
@@ -138,4 +139,4 @@ within_depth j = if nat_lt filled_depth (depth j) then Err TooNested else Ok j
 
 -- what the template gives
 abbrev pub filled : (Base → Option Json) → Json → Result Json Fault
-filled found template = and_then within_depth (with_values found template)
+filled found template = with_values found template >>= within_depth

@@ -3,7 +3,8 @@ ghost use Rattle.std.specs.Prelude.{◌≡◌, map, true, Ok, Err, IfOk};
 ghost use Rattle.arz_json.specs.Tree.{IsWellFormed, has_form, all_true};
 ghost use Rattle.arz_expr.specs.Values.{value_in};
 ghost use Rattle.arz_expr.specs.Filling.{Unresolved, FractionUsed, TooNested, resolved, filled_text, filled_member, all_of, with_values, filled};
-ghost use Rattle.arz_expr.specs.Cuts.{Gives};
+ghost use Rattle.arz_json.specs.Answer.{Gives};
+ghost use Rattle.arz_expr.specs.Cuts.{told};
 ghost use Rattle.arz_expr.specs.declared.filling.FillFault.TheVariants.{Memory};
 
 use crate::pieces::mix;
@@ -69,7 +70,7 @@ pub fn fill<S: Scope>(alloc: Global, template: &Template, scope: &S) -> Result<J
 
 fn fill_within<S: Scope>(alloc: Global, tree: &Json, scope: &S) -> Result<Json, FillFault>
     requires { IsWellFormed tree.now }
-    ensures gives { Gives (λ j. j) result (filled (S.found scope.now) tree.now) }
+    ensures gives { Gives (λ j. j) told result (filled (S.found scope.now) tree.now) }
     ensures well_formed { IfOk result IsWellFormed }
 {
     let tree = fill_tree(alloc, tree, scope)?;
@@ -82,7 +83,7 @@ fn fill_within<S: Scope>(alloc: Global, tree: &Json, scope: &S) -> Result<Json, 
 #[cycle(fill)]
 fn fill_tree<S: Scope>(alloc: Global, tree: &Json, scope: &S) -> Result<Json, FillFault>
     requires { has_form tree.now ≡ true }
-    ensures gives { Gives (λ j. j) result (with_values (S.found scope.now) tree.now) }
+    ensures gives { Gives (λ j. j) told result (with_values (S.found scope.now) tree.now) }
     ensures form { IfOk result (λ j. has_form j ≡ true) }
 {
     match tree {
@@ -103,7 +104,7 @@ fn fill_items<S: Scope>(
     scope: &S,
 ) -> Result<Many<Json>, FillFault>
     requires { all_true (map has_form items.now) ≡ true }
-    ensures gives { Gives (λ js. js) result (all_of (map (with_values (S.found scope.now)) items.now)) }
+    ensures gives { Gives (λ js. js) told result (all_of (map (with_values (S.found scope.now)) items.now)) }
     ensures form { IfOk result (λ js. all_true (map has_form js) ≡ true) }
 {
     let mut filled = Vec::with_capacity(alloc, items.len())?;
@@ -116,7 +117,7 @@ fn fill_items<S: Scope>(
 #[cycle(fill)]
 fn fill_members<S: Scope>(alloc: Global, members: &Members, scope: &S) -> Result<Members, FillFault>
     requires { all_true (map (λ m. has_form m.value) members.now) ≡ true }
-    ensures gives { Gives (λ ms. ms) result
+    ensures gives { Gives (λ ms. ms) told result
         (all_of (map (λ m. filled_member (m.name, with_values (S.found scope.now) m.value)) members.now)) }
     ensures form { IfOk result (λ ms. all_true (map (λ m. has_form m.value) ms) ≡ true) }
 {
@@ -131,7 +132,7 @@ fn fill_members<S: Scope>(alloc: Global, members: &Members, scope: &S) -> Result
 
 #[tactic(auto, unfolding(crate::specs::Filling::filled_text))]
 fn fill_text<S: Scope>(alloc: Global, text: &str, scope: &S) -> Result<Json, FillFault>
-    ensures gives { Gives (λ j. j) result (filled_text (S.found scope.now) text.now) }
+    ensures gives { Gives (λ j. j) told result (filled_text (S.found scope.now) text.now) }
     ensures form { IfOk result (λ j. has_form j ≡ true) }
 {
     if let Some(expr) = read_whole(alloc, text)? {
@@ -142,7 +143,7 @@ fn fill_text<S: Scope>(alloc: Global, text: &str, scope: &S) -> Result<Json, Fil
 }
 
 fn resolve<S: Scope>(alloc: Global, expr: &Expr, scope: &S) -> Result<Json, FillFault>
-    ensures gives { Gives (λ j. j) result (resolved (S.found scope.now) expr.now) }
+    ensures gives { Gives (λ j. j) told result (resolved (S.found scope.now) expr.now) }
     ensures form { IfOk result (λ j. has_form j ≡ true) }
 {
     match value(expr, scope) {

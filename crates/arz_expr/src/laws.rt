@@ -5,7 +5,7 @@ ghost use Rattle.std.specs.List.{list_all};
 ghost use Rattle.arz_json.specs.declared.tree.Json.{Json};
 ghost use Rattle.arz_expr.specs.Grammar.{Reads};
 ghost use Rattle.arz_expr.specs.Reading.{reading};
-ghost use Rattle.arz_expr.specs.Filling.{mapped, and_then, resolved, embedded, mixed, filled_text};
+ghost use Rattle.arz_expr.specs.Filling.{Embedded, resolved, text_of_piece, between, mixed, filled_text};
 ghost use Rattle.arz_expr.specs.declared.syntax.Base.{Base};
 ghost use Rattle.arz_expr.specs.declared.syntax.Expr.{Expr};
 
@@ -31,7 +31,7 @@ pub fn braces_hold_an_expression()
     ensures { (found : Base → Option Json) (before text after : List ℕ) (e : Expr) → Reads text e
         → list_all (λ b. not (b == 125)) before ≡ true
         → mixed found (before ++ 123 ∷ (text ++ 125 ∷ after))
-        ≡ and_then (λ value. mapped (λ more. before ++ (value ++ more)) (mixed found after)) (and_then embedded (resolved found e)) }
+        ≡ between before (text_of_piece found (Embedded e)) (mixed found after) }
 {}
 
 /// A text without `}` holds no expression.

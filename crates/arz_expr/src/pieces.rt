@@ -3,7 +3,8 @@ ghost use Rattle.std.specs.Prelude.{◌≡◌, ◌++◌, ◌∷◌, ◌<◌, ℕ
 ghost use Rattle.arz_json.specs.Tree.{IsWellFormed};
 ghost use Rattle.arz_expr.specs.Reading.{reading};
 ghost use Rattle.arz_expr.specs.Filling.{Embedded, Byte, mapped, pieces, embedded, text_of_piece, joined, mixed};
-ghost use Rattle.arz_expr.specs.Cuts.{Gives, OpensNone, pieces_to, compact_of};
+ghost use Rattle.arz_json.specs.Answer.{Gives};
+ghost use Rattle.arz_expr.specs.Cuts.{told, OpensNone, pieces_to, compact_of};
 
 use crate::filling::FillFault;
 use crate::reading::read_whole;
@@ -63,7 +64,7 @@ fn last_braced(alloc: Global, text: &str) -> Result<Option<(&str, Expr)>, AllocE
 
 /// The text with the values in place of the expressions that it holds in braces.
 pub(crate) fn mix<S: Scope>(alloc: Global, text: &str, scope: &S) -> Result<String, FillFault>
-    ensures { Gives string_bytes result (mixed (S.found scope.now) text.now) }
+    ensures { Gives string_bytes told result (mixed (S.found scope.now) text.now) }
 {
     let mut out = String::new(alloc);
     let mut rest = text;
@@ -81,7 +82,7 @@ fn push_cut<S: Scope>(
     cut: &Cut,
     scope: &S,
 ) -> Result<(), FillFault>
-    ensures { Gives (λ _. string_bytes out.new) result
+    ensures { Gives (λ _. string_bytes out.new) told result
         (mapped (λ t. string_bytes out.old ++ t) (joined (S.found scope.now) (pieces_to cut.now))) }
 {
     out.push_str(cut.plain)?;
@@ -100,7 +101,7 @@ fn push_value<S: Scope>(
     expr: &Expr,
     scope: &S,
 ) -> Result<(), FillFault>
-    ensures { Gives (λ _. string_bytes out.new) result
+    ensures { Gives (λ _. string_bytes out.new) told result
         (mapped (λ t. string_bytes out.old ++ t) (text_of_piece (S.found scope.now) (Embedded expr.now))) }
 {
     match value(expr, scope) {
@@ -111,7 +112,7 @@ fn push_value<S: Scope>(
 
 fn push_rendered(alloc: Global, out: &mut String, value: &Json) -> Result<(), FillFault>
     requires { IsWellFormed value.now }
-    ensures { Gives (λ _. string_bytes out.new) result
+    ensures { Gives (λ _. string_bytes out.new) told result
         (mapped (λ t. string_bytes out.old ++ t) (embedded value.now)) }
 {
     match value {
@@ -127,7 +128,7 @@ fn push_rendered(alloc: Global, out: &mut String, value: &Json) -> Result<(), Fi
 
 fn push_compact(alloc: Global, out: &mut String, value: &Json) -> Result<(), FillFault>
     requires { IsWellFormed value.now }
-    ensures { Gives (λ _. string_bytes out.new) result
+    ensures { Gives (λ _. string_bytes out.new) told result
         (mapped (λ t. string_bytes out.old ++ t) (compact_of value.now)) }
 {
     match compact_string(alloc, value) {

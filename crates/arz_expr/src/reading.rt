@@ -200,8 +200,7 @@ fn read_name(alloc: Global, text: &str) -> Result<Option<(Text, &str)>, AllocErr
     let Some((front, rest)) = name(text) else {
         return Ok(None);
     };
-    let front = String::from_str(alloc, front)?;
-    Ok(Some((Text::from_std(front), rest)))
+    Ok(Some((Text::from_str(alloc, front)?, rest)))
 }
 
 // The steps of a tail, and the pointer after them.
@@ -256,6 +255,5 @@ fn read_end(alloc: Global, text: &str) -> Result<Option<Option<Text>>, AllocErro
     if !is_pointer(pointer) {
         return Ok(None);
     }
-    let pointer = String::from_str(alloc, pointer)?;
-    Ok(Some(Some(Text::from_std(pointer))))
+    Ok(Some(Some(Text::from_str(alloc, pointer)?)))
 }

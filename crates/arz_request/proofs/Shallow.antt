@@ -1,10 +1,11 @@
 -- What a template gives, and what a request is made of, nests at most 127 deep.
 use Rattle.std.proofs.Common.{◌≡◌, ◌≤◌, Bool, true, false, nat_lt, if◌then◌else◌, All, Option, Some, None, Result, Ok, Err, refl, ap, subst}
 use Rattle.std.proofs.lemmas.Bool.{ltb-false}
+use Rattle.arz_json.specs.Answer.{◌>>=◌}
 use Rattle.arz_json.specs.Tree.{depth, IsWellFormed}
 use Rattle.arz_json.specs.declared.Json.{Json}
 use Rattle.arz_world.specs.declared.Request.{Request}
-use Rattle.arz_expr.specs.Filling.{Fault, TooNested, and_then, within_depth, with_values, filled}
+use Rattle.arz_expr.specs.Filling.{Fault, TooNested, within_depth, with_values, filled}
 use Rattle.arz_expr.specs.declared.syntax.Base.{Base}
 use Rattle.arz_flow.specs.Shallow.{IsShallow, SendsShallow}
 
@@ -17,7 +18,7 @@ by_test : (b : Bool) (k j : Json) → nat_lt 127 (depth k) ≡ b → (if b then 
 by_test true k j test e = absurd (cc)
 by_test false k j test e = subst (λ x. depth x ≤ 127) (ap (made_or j) e) (ltb-false 127 (depth k) test)
 
-nests_by : (r : Result Json Fault) (j : Json) → and_then within_depth r ≡ Ok j → depth j ≤ 127
+nests_by : (r : Result Json Fault) (j : Json) → (r >>= within_depth) ≡ Ok j → depth j ≤ 127
 nests_by (Err fault) j e = absurd (cc)
 nests_by (Ok k) j e = by_test (nat_lt 127 (depth k)) k j refl e
 

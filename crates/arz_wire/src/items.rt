@@ -53,7 +53,7 @@ pub fn text_of(alloc: Global, total: usize, bytes: &[u8]) -> Result<(Text, &[u8]
     }
     let (front, after) = rest.split_at(len as usize);
     match str::from_utf8(front) {
-        Ok(text) => Ok((Text::from_std(String::from_str(alloc, text)?), after)),
+        Ok(text) => Ok((Text::from_str(alloc, text)?, after)),
         Err(_) => Err(WireFault::NotCanonical(place(total, rest))),
     }
 }

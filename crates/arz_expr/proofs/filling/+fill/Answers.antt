@@ -7,7 +7,8 @@ use Rattle.arz_json.specs.declared.tree.Json.TheVariants.{Object}
 use Rattle.arz_json.specs.declared.tree.Member.{Member}
 use Rattle.arz_json.proofs.Layers.{members_form}
 use Rattle.arz_expr.specs.Filling.{mapped, all_of, filled_member, with_values}
-use Rattle.arz_expr.proofs.Joins.{fails}
+use Rattle.arz_json.proofs.Answer.{fails}
+use Rattle.arz_expr.specs.Cuts.{told}
 use Rattle.arz_expr.proofs.Levels.{goes-on, member_of, with_values-object, object-form}
 use Rattle.arz_expr.proofs.filling.+fill.Goals as goal
 
@@ -21,7 +22,7 @@ fill_tree-returns-in_err-fill_members-in-Object-clause-gives g t c =
     let residual = c.from_residual-in_err-fill_members-in-Object in
     let failed = c.in_err-fill_members-in-Object in
     let p = err_from_is_err_and residual.result residual.ensures.1 in
-    rw (p.1, p.2) (fails failed.field-0.0 (all_of (map (member_of found) c.in-Object.members)) (with_values found c.args.tree.now)
+    rw (p.1, p.2) (fails (told failed.field-0.0) (all_of (map (member_of found) c.in-Object.members)) (with_values found c.args.tree.now)
     (λ f e. ap (with_values found) c.in-Object.is ∙ with_values-object found c.in-Object.members ∙ ap (mapped Object) e) failed.ensures.gives)
 
 pub fill_tree-returns-in_ok-fill_members-in-Object-clause-gives : goal.fill_tree-returns-in_ok-fill_members-in-Object-clause-gives

@@ -2,7 +2,9 @@ use Rattle.std.proofs.Common.{◌++◌, Ok, string_bytes, sym, ap, ◌∙◌}
 use Rattle.std.proofs.lemmas.Result.{err_from_is_err_and}
 use Rattle.arz_expr.specs.Filling.{mapped, joined, mixed}
 use Rattle.arz_expr.specs.Cuts.{pieces_to}
-use Rattle.arz_expr.proofs.Joins.{fails, mix-on, mix-stops, mix-done}
+use Rattle.arz_json.proofs.Answer.{fails}
+use Rattle.arz_expr.specs.Cuts.{told}
+use Rattle.arz_expr.proofs.Joins.{mix-on, mix-stops, mix-done}
 use Rattle.arz_expr.proofs.pieces.mix.Goals as goal
 
 pub returns-in_err-push_cut : goal.returns-in_err-push_cut
@@ -12,7 +14,7 @@ returns-in_err-push_cut g c =
     let cut = c.in-Some.cut in
     let parts = rw c.in-Some.is at c.in_ok-cut.ensures.cut in
     let p = err_from_is_err_and c.from_residual-in_err-push_cut.result c.from_residual-in_err-push_cut.ensures.1 in
-    rw (p.1, p.2) (fails c.in_err-push_cut.field-0.0 (mapped (λ t. out ++ t) (joined found (pieces_to cut))) (mixed found c.args.text.now)
+    rw (p.1, p.2) (fails (told c.in_err-push_cut.field-0.0) (mapped (λ t. out ++ t) (joined found (pieces_to cut))) (mixed found c.args.text.now)
     (λ f e. sym c.pieces.invariant.0 ∙ mix-stops found out c.pieces.rest.now cut.rest.now (pieces_to cut) f parts.0 e)
     c.in_err-push_cut.ensures)
 

@@ -9,7 +9,7 @@ returns-in_ok-from_str-in-Ok c =
     let rest = c.in_ok-len.rest.now in
     let len = c.in_ok-len.len in
     let front = c.split_at.ensures.front in
-    let text = c.from_std.ensures ∙ c.in_ok-from_str-in-Ok.ensures.ok ∙ c.in-Ok.ensures.cases.0 ∙ front in
+    let text = c.in_ok-from_str-in-Ok.ensures ∙ c.in-Ok.ensures.cases.0 ∙ front in
     text_taken c.args.total c.args.bytes.now len rest c.in_ok-len.ensures (omega arith) (is_text (take len rest) (subst IsUtf8 front c.in-Ok.ensures.cases.1))
     ∙ ap₂ (λ a b. Ok (a, b)) (sym text) (sym c.split_at.ensures.back)
 
