@@ -10,7 +10,7 @@ use Rattle.arz_flow.specs.Play.{Result, Completed, Broke, NoStep, Stuck, Play, S
 use Rattle.arz_flow.specs.Cases.{Runs, script}
 use Rattle.arz_flow.specs.declared.answers.End.{End}
 use Rattle.arz_flow.specs.declared.answers.End.TheVariants.{Completed as EndCompleted, Broke as EndBroke, Out as EndOut, Stuck as EndStuck}
-use Rattle.arz_flow.specs.Executions.{fits, HasPace, start, execution, pace, fuel, whole, asks_of, end_of, end_of_result, TookAll, asks, end, IsPrefixOf}
+use Rattle.arz_flow.specs.Executions.{fits, HasPace, start, execution, pace, fuel, whole, asks_of, end_of, end_of_result, TookAll, asks, end, Fitting, IsPrefixOf}
 use Rattle.arz_flow.specs.Laws.{OneEnd, AsManyAsks, OneMore, PrefixFits}
 use Rattle.arz_flow.specs.Stands.{Comes}
 use Rattle.arz_flow.proofs.Below.{Below, play_below}
@@ -185,6 +185,13 @@ end_whole b r n e h = sym (ap (end_of b.workflow) (same_over b r n (λ s. some_n
     some_none : (x : End) → Some x ≡ None → ⊥
     some_none x f = absurd cc
 
+before_first : (b : Bundle) → TookAll (whole b []) × (asks_of (whole b []) ≡ [])
+before_first b = grown [] (whole b []) (play_grows (script b) (fuel 0) (Runs b.workflow b.inputs) (start [])) (over_whole b [])
+
 -- before the first answer nothing was answered
 pub no_asks : (b : Bundle) → asks b [] ≡ []
-no_asks b = (grown [] (whole b []) (play_grows (script b) (fuel 0) (Runs b.workflow b.inputs) (start [])) (over_whole b [])).1
+no_asks b = (before_first b).1
+
+-- no answers fit
+pub none_fit : (b : Bundle) → Fitting b []
+none_fit b = (before_first b).0

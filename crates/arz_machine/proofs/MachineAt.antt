@@ -16,7 +16,7 @@ use Rattle.arz_flow.specs.Cases.{is_success}
 use Rattle.arz_flow.specs.Documents.{steps_of}
 use Rattle.arz_flow.specs.Executions.{end, Fitting}
 use Rattle.arz_flow.specs.Valid.{IsValid}
-use Rattle.arz_machine.specs.States.{Rest, Sends, Ended, has_step, entered, next_fact, goes_to}
+use Rattle.arz_machine.specs.States.{Rest, Sends, Ended, is_sending, has_step, entered, next_fact, goes_to}
 use Rattle.arz_machine.specs.Rests.{IsSending, IsOver, Rests, takes}
 use Rattle.arz_machine.specs.At.{Standing, At}
 use Rattle.arz_machine.proofs.Turning.{begins, goes_next, sending_out, rests_fitting, over_takes, sending_takes, no_served}
@@ -44,6 +44,14 @@ module _ (m : Standing) (b : Bundle) (r : List Answer) (at : At m b r) where
 
   pub takes_no_served : takes (end b r) Served ≡ false
   takes_no_served = no_served b m.facts m.step m.rest r at.rests
+
+  -- a reply is taken exactly where one is waited for
+  takes_kind : (y : Reply) (s : Rest) → m.rest ≡ s → takes (end b r) (Replied y) ≡ is_sending s
+  takes_kind y (Sends q) e = takes_reply q y e
+  takes_kind y (Ended x) e = ended_takes x (Replied y) e
+
+  pub takes_as : (y : Reply) (a : Answer) → a ≡ Replied y → takes (end b r) a ≡ is_sending m.rest
+  takes_as y a is = ap (takes (end b r)) is ∙ takes_kind y m.rest refl
 
   -- an answer that is no reply isn't taken
   pub takes_other : (a : Answer) → ((y : Reply) → a ≡ Replied y → ⊥) → takes (end b r) a ≡ false

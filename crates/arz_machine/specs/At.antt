@@ -12,7 +12,7 @@ use Rattle.arz_machine.specs.declared.machine.Next.{Next}
 use Rattle.arz_machine.specs.declared.machine.Next.TheVariants.{Send as NextSend, Ended as NextEnded}
 use Rattle.arz_machine.specs.Resting.{rest_of}
 use Rattle.arz_machine.specs.Rests.{lacks_answer, Rests}
-use Rattle.arz_machine.specs.States.{Rest}
+use Rattle.arz_machine.specs.States.{Rest, Sends, Ended}
 
 -- all that a machine holds: its bundle, the facts so far, the index of the step, and where it rests
 pub record Standing : Type 0 where
@@ -30,6 +30,11 @@ pub record At (m : Standing) (b : Bundle) (r : List Answer) : Type 0 where
   pub count : length r ≡ m.step
   pub within : m.step ≤ length (steps_of b b.workflow)
   pub rests : Rests b m.facts m.step m.rest r
+
+-- where a machine rests whose next is this
+abbrev pub rest_told : Next → Rest
+rest_told (NextSend q) = Sends q.now
+rest_told (NextEnded e) = Ended e.now
 
 -- whether this is the end that the next of a machine tells of
 abbrev pub Tells : Next → Option End → Type 0

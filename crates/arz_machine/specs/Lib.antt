@@ -3,3 +3,4 @@ pub mod Plain
 pub mod Resting
 pub mod Rests
 pub mod At
+pub mod Spoken

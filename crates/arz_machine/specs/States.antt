@@ -22,6 +22,11 @@ pub data Rest : Type 0 where
   Sends : Request → Rest
   Ended : End → Rest
 
+-- whether a request is to be sent
+abbrev pub is_sending : Rest → Bool
+is_sending (Sends q) = true
+is_sending (Ended e) = false
+
 -- where a step's request is to be sent there is such a step
 abbrev pub has_step : Rest → (step count : ℕ) → Bool
 has_step (Sends q) step count = nat_lt step count

@@ -5,9 +5,10 @@ ghost use Rattle.arz_flow.specs.declared.answers.Answer.{Answer};
 ghost use Rattle.arz_flow.specs.Cases.{is_success as has_success};
 ghost use Rattle.arz_flow.specs.Valid.{IsValid};
 ghost use Rattle.arz_flow.specs.Executions.{end as end_over};
-ghost use Rattle.arz_machine.specs.At.{standing, At, Tells};
+ghost use Rattle.arz_machine.specs.At.{standing, At, Tells, rest_told};
 ghost use Rattle.arz_machine.specs.Plain.{has_plain_outputs};
 ghost use Rattle.arz_machine.specs.Rests.{takes};
+ghost use Rattle.arz_machine.specs.States.{is_sending};
 
 use crate::machine::{Machine, MachineFault, Next};
 use crate::run::Run;
@@ -34,7 +35,8 @@ impl<'a> Machine<'a> {
     /// The ask that is next over the answers so far, or the end of the execution, which is never for
     /// want of an answer.
     pub fn next(&self) -> Next<'_>
-        ensures { (b : Bundle) (r : List Answer) → At (standing self.now) b r → Tells result (end_over b r) }
+        ensures rest { rest_told result ≡ (standing self.now).rest }
+        ensures tells { (b : Bundle) (r : List Answer) → At (standing self.now) b r → Tells result (end_over b r) }
     {
         match &self.state {
             State::Sends(ready) => Next::Send(&ready.request),
@@ -56,18 +58,23 @@ impl<'a> Machine<'a> {
             → (result ≡ Err MachineFault.WrongKind) ↔ (takes (end_over b r) answer ≡ false) }
         ensures refused { OnErr result (standing self.new ≡ standing self.old) }
     {
-        let Answer::Reply(reply) = answer else {
-            return Err(MachineFault::WrongKind);
-        };
+        match answer {
+            Answer::Reply(reply) => self.tell(&reply),
+            Answer::Served => Err(MachineFault::WrongKind),
+        }
+    }
+
+    /// Takes the reply to the request that is to be sent. After a refusal the machine is as before.
+    pub fn tell(&mut self, reply: &Reply) -> Result<(), MachineFault>
+        ensures taken { OnOk result ((b : Bundle) (r : List Answer) → At (standing self.old) b r → At (standing self.new) b (r ++ Answer.Reply reply.now ∷ [])) }
+        ensures wrong_kind { (result ≡ Err MachineFault.WrongKind) ↔ (is_sending (standing self.old).rest ≡ false) }
+        ensures refused { OnErr result (standing self.new ≡ standing self.old) }
+    {
         let State::Sends(ready) = &self.state else {
             return Err(MachineFault::WrongKind);
         };
-        let Ok(fact) = self.run.fact(self.step, ready, &reply) else {
-            return Err(MachineFault::Memory);
-        };
-        let Ok(state) = self.run.go_on(fact, self.step, is_success(&reply)) else {
-            return Err(MachineFault::Memory);
-        };
+        let fact = self.run.fact(self.step, ready, reply)?;
+        let state = self.run.go_on(fact, self.step, is_success(reply))?;
         self.step += 1;
         self.state = state;
         Ok(())

@@ -3,11 +3,14 @@ ghost use Rattle.std.specs.Prelude.{◌≡◌, ◌≤◌, length, true};
 ghost use Rattle.arz_machine.specs.Plain.{is_plain};
 ghost use Rattle.arz_machine.specs.Resting.{rest_of};
 ghost use Rattle.arz_machine.specs.States.{has_step};
+ghost use Rattle.arz_machine.specs.declared.machine.MachineFault.TheVariants.{Memory};
 
 use crate::run::Run;
 use crate::state::State;
 use arz_flow::End;
 use arz_world::Request;
+use std::alloc::AllocError;
+use thiserror::Error;
 
 /// What an execution over the answers so far comes to.
 pub enum Next<'a> {
@@ -18,12 +21,22 @@ pub enum Next<'a> {
 }
 
 /// Why an answer was refused.
-#[derive(Clone, Copy, Debug, PartialEq, Eq)]
+#[derive(Clone, Copy, Debug, PartialEq, Eq, Error)]
 pub enum MachineFault {
     /// It is of another kind than what is asked, or nothing is asked.
+    #[error("the answer is of another kind than what is asked")]
     WrongKind,
     /// Memory ran out.
+    #[error("out of memory")]
     Memory,
+}
+
+impl From<AllocError> for MachineFault {
+    ghost from_gives = { λ _ e. e ≡ Memory };
+
+    fn from(_e: AllocError) -> MachineFault {
+        MachineFault::Memory
+    }
 }
 
 /// An execution of a bundle's starting workflow (Arazzo 1.0.1, 4.6.4), step by step. It rests at the

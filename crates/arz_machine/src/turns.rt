@@ -8,6 +8,7 @@ ghost use Rattle.arz_flow.specs.Shallow.{AreShallow};
 ghost use Rattle.arz_flow.specs.Valid.{IsValid};
 ghost use Rattle.arz_machine.specs.Plain.{is_plain};
 ghost use Rattle.arz_machine.specs.Resting.{rest_of};
+ghost use Rattle.arz_machine.specs.Spoken.{spoken};
 ghost use Rattle.arz_machine.specs.States.{has_step, run_of, entered, closed, goes_to, next_fact};
 
 use crate::run::Run;
@@ -141,12 +142,7 @@ impl<'a> Run<'a> {
 
     // What the run's expressions speak of.
     fn scope<'s>(&'s self, exchange: Option<&'s Exchange<'s>>) -> Result<RunScope<'s>, AllocError>
-        ensures { IfOk result (λ s. s ≡ record {
-          description = self.now.bundle.now.arazzo;
-          inputs = self.now.bundle.now.inputs;
-          facts = self.now.facts;
-          exchange = option_copied exchange.entry;
-        }) }
+        ensures { IfOk result (λ s. s ≡ spoken self.now.bundle.now self.now.facts (option_copied exchange.entry)) }
     {
         let bundle = self.bundle;
         let inputs = bundle.inputs.as_slice();

@@ -8,8 +8,6 @@ mod fields;
 mod lookups;
 mod output_values;
 mod run_scope;
-#[cfg(test)]
-mod tests;
 
 pub use exchange::Exchange;
 pub use output_values::{any_opaque, outputs};

@@ -4,8 +4,8 @@ use Rattle.arz_machine.specs.Resting.{rest_of}
 use Rattle.arz_machine.proofs.MachineAt.{lacks_reply, is_over}
 use Rattle.arz_machine.proofs.machine.Machine.next.Goals as goal
 
-pub returns-in-Sends : goal.returns-in-Sends
-returns-in-Sends c = λ b r at. lacks_reply (standing c.args.self.now) b r at _ (ap rest_of c.in-Sends.is)
+pub returns-in-Sends-clause-tells : goal.returns-in-Sends-clause-tells
+returns-in-Sends-clause-tells c = λ b r at. lacks_reply (standing c.args.self.now) b r at _ (ap rest_of c.in-Sends.is)
 
-pub returns-in-Ended : goal.returns-in-Ended
-returns-in-Ended c = λ b r at. let over = is_over (standing c.args.self.now) b r at _ (ap rest_of c.in-Ended.is) in (over.end, over.settled)
+pub returns-in-Ended-clause-tells : goal.returns-in-Ended-clause-tells
+returns-in-Ended-clause-tells c = λ b r at. let over = is_over (standing c.args.self.now) b r at _ (ap rest_of c.in-Ended.is) in (over.end, over.settled)
