@@ -4,15 +4,19 @@ ghost use Rattle.arz_bundle.specs.declared.fault.LoadFault.TheVariants.{Memory};
 
 use arz_json::{Refusal, Text};
 use std::alloc::{AllocError, AllocFailed};
+use thiserror::Error;
 
 /// Why files give nothing.
-#[derive(Debug, Drop)]
+#[derive(Debug, Drop, Error)]
 pub enum LoadFault {
     /// A read of the file at this path failed.
+    #[error("a file couldn't be read")]
     File(Text),
     /// This is the first rule that a file fails.
+    #[error("a file is refused")]
     Refused(Refusal),
     /// Memory ran out.
+    #[error("out of memory")]
     Memory,
 }
 

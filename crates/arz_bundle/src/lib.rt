@@ -6,6 +6,7 @@ mod files;
 mod forms;
 mod given;
 mod loading;
+
 pub use fault::LoadFault;
 pub use files::FILE_LIMIT;
 pub use given::replies;
