@@ -12,3 +12,6 @@ pub mod Trades
 pub mod Puts
 pub mod Answer
 pub mod Splits
+pub mod Indexes
+pub mod Names
+pub mod Elsewhere

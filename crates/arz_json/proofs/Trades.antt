@@ -22,7 +22,7 @@ set-same [] i k e = refl
 set-same (x ∷ xs) zero k e = ap (λ y. y ∷ xs) (sym (Some_inj x k e))
 set-same (x ∷ xs) (suc i) k e = ap (λ ys. x ∷ ys) (set-same xs i k e)
 
-slice_get-set : {A : Type 0} (xs : List A) (i : ℕ) (k l : A) → slice_get xs i ≡ Some l → slice_get (set xs i k) i ≡ Some k
+pub slice_get-set : {A : Type 0} (xs : List A) (i : ℕ) (k l : A) → slice_get xs i ≡ Some l → slice_get (set xs i k) i ≡ Some k
 slice_get-set [] i k l e = absurd (cc)
 slice_get-set (x ∷ xs) zero k l e = refl
 slice_get-set (x ∷ xs) (suc i) k l e = slice_get-set xs i k l e
@@ -104,7 +104,7 @@ child_of_set j (Json-F.Int z) i k token e = ap (child_in token) e
 child_of_set j (Json-F.Text s) i k token e = ap (child_in token) e
 child_of_set j Json-F.Opaque i k token e = ap (child_in token) e
 
-child_of-set_child : (j : Json) (i : ℕ) (k : Json) (token : List ℕ) → child_of token (set_child j i k) ≡ child_of token j
+pub child_of-set_child : (j : Json) (i : ℕ) (k : Json) (token : List ℕ) → child_of token (set_child j i k) ≡ child_of token j
 child_of-set_child j i k token = child_of_set j (out-Json j) i k token refl
 
 -- ---- a trade of a child
@@ -153,7 +153,7 @@ traded_last new xs j h = ap (λ l. traded_from new [] l j) (sym (append-nil xs))
 
 -- ---- what stood there is what the pointer names
 
-step_child_in : (token : List ℕ) (x : Json-F Json Member) → option_and_then (slice_get (children_in x)) (child_in token x) ≡ step_in token x
+pub step_child_in : (token : List ℕ) (x : Json-F Json Member) → option_and_then (slice_get (children_in x)) (child_in token x) ≡ step_in token x
 step_child_in token (Json-F.List js) = refl
 step_child_in token (Json-F.Object ms) = each (decoded token)
   where
@@ -182,7 +182,7 @@ got_child f g token j h = each (child_of token j) ∙ ap (option_and_then g) (st
     each None = refl
     each (Some i) = here i (slice_get (children j) i)
 
-step_alone : (o : Option Json) → option_and_then (λ k. Some k) o ≡ o
+pub step_alone : (o : Option Json) → option_and_then (λ k. Some k) o ≡ o
 step_alone None = refl
 step_alone (Some k) = refl
 

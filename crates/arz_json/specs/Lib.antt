@@ -8,3 +8,4 @@ pub mod Look
 pub mod Texts
 pub mod Shallow
 pub mod Answer
+pub mod Laws

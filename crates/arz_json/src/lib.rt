@@ -7,14 +7,13 @@
 
 mod compare;
 mod copies;
+pub mod laws;
 mod look;
 mod many;
 mod number;
 mod placing;
 mod pointer;
 mod reader;
-#[cfg(test)]
-mod tests;
 mod text;
 mod tree;
 mod writer;
