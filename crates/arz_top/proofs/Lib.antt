@@ -1,3 +1,6 @@
+pub mod Fronts
 pub mod Loaded
+pub mod Once
+pub mod OneEnding
 pub mod Printed
 pub mod RowsOf

@@ -23,6 +23,9 @@ use Rattle.arz_top.specs.Endings.{Faulted, Plays, FromBundle, Mocks, Comes}
 use Rattle.arz_top.specs.Report.{line, report, status, end_status, refusal_line}
 use Rattle.arz_top.specs.Ends.{Ends, Whole, Cut, RanOut}
 use Rattle.arz_top.specs.Rows.{Rows}
+use Rattle.arz_top.specs.Exact.{Exact}
+use Rattle.arz_top.specs.Steady.{IsSteady}
+use Rattle.arz_top.proofs.OneEnding.{one_ending}
 
 -- ---- which ending has which status
 
@@ -147,6 +150,17 @@ module _ (files files_now : FilesView) where
   file-cause Unknown path came = absurd (let n : 13 ≡ 2 = ap status came in omega (arith, n))
   file-cause (Mock setup replies) path came = caused-setup setup replies (File path) came
 
+-- where the words come to one ending alone, each answer tells it
+exactly : (Came : Ending → Type 0) (answer : ℕ) (e : Ending) → answer ≡ status e → ((other : Ending) → Came other → e ≡ other) → Exact Came answer
+exactly Came answer e answered one = record {
+  completed = λ s outputs came is. answered ∙ ap status (one (Played s) came) ∙ ap end_status is;
+  broke = λ s outputs came is. answered ∙ ap status (one (Played s) came) ∙ ap end_status is;
+  words = λ came. answered ∙ ap status (one Words came);
+  refused = λ refusal came. answered ∙ ap status (one (Refused refusal) came);
+  stuck = λ s cause at came is. answered ∙ ap status (one (Played s) came) ∙ ap end_status is;
+  out = λ s ask came is. answered ∙ ap status (one (Played s) came) ∙ ap end_status is;
+}
+
 module _ (files files_now : FilesView) (command : Command) (sink sink_now : SinkView) (answer : ℕ) where
   abbrev Came : Ending → Type 0
   Came = Comes files files_now command
@@ -165,6 +179,7 @@ module _ (files files_now : FilesView) (command : Command) (sink sink_now : Sink
     out = λ is. let r = at-14 w.ending (sym w.answered ∙ is) in (r.0, r.1, subst Came r.2 w.came, r.3);
     whole = λ a b. (w.ending, w.came, w.answered, w.put);
     succeeds = λ a b. (w.ending, w.came, w.answered);
+    exact = λ steady a b. exactly Came answer w.ending w.answered (λ other came. one_ending files files_now command w.ending other steady w.came came);
   }
 
   pub rows : Ends Came sink sink_now answer → Rows files files_now command sink sink_now answer
@@ -181,6 +196,7 @@ module _ (files files_now : FilesView) (command : Command) (sink sink_now : Sink
     out = λ is. absurd (omega (arith, w.answered, is));
     whole = λ a b. absurd (a w.answered);
     succeeds = λ a b. absurd (a w.failed);
+    exact = λ steady a b. absurd (a w.failed);
   }
   rows (inr (inr w)) = record {
     completed = λ is. absurd (omega (arith, w.answered, is));
@@ -194,4 +210,5 @@ module _ (files files_now : FilesView) (command : Command) (sink sink_now : Sink
     out = λ is. absurd (omega (arith, w.answered, is));
     whole = λ a b. absurd (b w.answered);
     succeeds = λ a b. absurd (b w.answered);
+    exact = λ steady a b. absurd (b w.answered);
   }

@@ -8,6 +8,7 @@ mod memory_files;
 mod memory_sink;
 mod messages;
 mod sink;
+
 pub use calls::note_fault;
 pub use files::{FileFault, Files};
 pub use memory_files::{MemoryFiles, NamedBytes};

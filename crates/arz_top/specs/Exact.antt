@@ -1,0 +1,20 @@
+-- Which answer each ending has.
+use Rattle.std.specs.Prelude.{◌≡◌, ℕ, List}
+use Rattle.arz_json.specs.declared.Member.{Member}
+use Rattle.arz_json.specs.declared.Refusal.{Refusal}
+use Rattle.arz_flow.specs.declared.answers.Ask.{Ask}
+use Rattle.arz_flow.specs.declared.answers.Cause.{Cause}
+use Rattle.arz_flow.specs.declared.answers.Spot.{Spot}
+use Rattle.arz_flow.specs.declared.answers.End.TheVariants.{Completed, Broke, Out, Stuck}
+use Rattle.arz_session.specs.declared.session.Session.{Session}
+use Rattle.arz_top.specs.declared.ending.Ending.{Ending}
+use Rattle.arz_top.specs.declared.ending.Ending.TheVariants.{Words, Refused, Played}
+
+-- Came: the endings that the words may come to
+pub record Exact (Came : Ending → Type 0) (answer : ℕ) : Type 0 where
+  pub completed : (s : Session) (outputs : List Member) → Came (Played s) → s.end ≡ Completed outputs → answer ≡ 0
+  pub broke : (s : Session) (outputs : List Member) → Came (Played s) → s.end ≡ Broke outputs → answer ≡ 1
+  pub words : Came Words → answer ≡ 2
+  pub refused : (refusal : Refusal) → Came (Refused refusal) → answer ≡ 3
+  pub stuck : (s : Session) (cause : Cause) (at : Spot) → Came (Played s) → s.end ≡ Stuck cause at → answer ≡ 7
+  pub out : (s : Session) (ask : Ask) → Came (Played s) → s.end ≡ Out ask → answer ≡ 14
