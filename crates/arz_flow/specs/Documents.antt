@@ -1,23 +1,14 @@
 -- The steps and operations of raw documents (Arazzo 1.0.1, 4.6.4 and 4.6.5; OpenAPI 3.1.1, 4.8.8 to 4.8.10).
 -- What a document doesn't have is empty here; no document that passed its rules lacks it.
-use Rattle.std.specs.Prelude.{ℕ, List, [], ◌∷◌, map, find, codes, Option, Some, None, option_and_then, unwrap_or}
+use Rattle.std.specs.Prelude.{ℕ, List, [], ◌∷◌, map, find, codes, Option, Some, None, unwrap_or}
 use Rattle.std.specs.List.{flat_map}
 use Rattle.std.specs.Str.{bytes_eq}
-use Rattle.arz_json.specs.Look.{text_in, list_in, object_in, member_in}
+use Rattle.arz_json.specs.Look.{object_in}
+pub use Rattle.arz_json.specs.Look.{text_at, items_at, members_at}
 use Rattle.arz_json.specs.declared.Json.{Json}
 use Rattle.arz_json.specs.declared.Member.{Member}
 use Rattle.arz_json.specs.declared.Named.{Named}
 use Rattle.arz_flow.specs.declared.bundle.Bundle.{Bundle}
-
--- the text, the items or the members that stand under a name
-abbrev pub text_at : List ℕ → Json → List ℕ
-text_at name j = unwrap_or (option_and_then text_in (member_in name j)) []
-
-abbrev pub items_at : List ℕ → Json → List Json
-items_at name j = unwrap_or (option_and_then list_in (member_in name j)) []
-
-abbrev pub members_at : List ℕ → Json → List Member
-members_at name j = unwrap_or (option_and_then object_in (member_in name j)) []
 
 -- the first workflow with this workflowId
 abbrev pub workflow_named : List ℕ → Json → Option Json

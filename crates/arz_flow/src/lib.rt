@@ -6,10 +6,9 @@ mod bundle;
 mod facts;
 pub mod laws;
 mod lines;
-mod look;
 
 pub use answers::{Answer, Ask, Cause, End, Spot};
+pub use arz_json::{items_at, members_at, text_at};
 pub use bundle::{Bundle, NamedText};
 pub use facts::Fact;
 pub use lines::{ask_text, end_line, send_text};
-pub use look::{items_at, members_at, text_at};
