@@ -15,18 +15,25 @@ use std::alloc::{AllocError, Global};
 /// What the expression `text` stands for in a run with a `description`, with `inputs`, after `facts`,
 /// and with an exchange where there is a `request`.
 pub fn scope(alloc: Global, case: &Case<'_>) -> Result<Outcome, CaseFault> {
-    let description = case.json(alloc, "description")?;
-    let inputs = members(alloc, case, "inputs")?;
-    let facts = facts(alloc, case)?;
     let Some(sent) = case.member("request") else {
-        let scope = RunScope::new(alloc, &description, inputs.as_slice(), &facts, None)?;
-        return found(alloc, case, &scope);
+        return seen(alloc, case, None);
     };
     let request = request(alloc, &case.inner(sent))?;
     let reply = reply(alloc, case)?;
     let exchange = Exchange::new(alloc, &request, &reply)?;
+    seen(alloc, case, Some(&exchange))
+}
+
+fn seen(
+    alloc: Global,
+    case: &Case<'_>,
+    exchange: Option<&Exchange<'_>>,
+) -> Result<Outcome, CaseFault> {
+    let description = case.json(alloc, "description")?;
+    let inputs = members(alloc, case, "inputs")?;
+    let facts = facts(alloc, case)?;
     let inputs = inputs.as_slice();
-    let scope = RunScope::new(alloc, &description, inputs, &facts, Some(&exchange))?;
+    let scope = RunScope::new(alloc, &description, inputs, facts.as_slice(), exchange)?;
     found(alloc, case, &scope)
 }
 

@@ -1,4 +1,6 @@
 // The wire form of trees and of journal entries.
+ghost use Rattle.arz_json.specs.Tree.{IsWellFormed};
+
 use crate::case::Case;
 use crate::fault::CaseFault;
 use crate::outcome::{Outcome, brief, flag_word};
@@ -26,7 +28,9 @@ pub fn unwire(alloc: Global, case: &Case<'_>) -> Result<Outcome, CaseFault> {
     }
 }
 
-fn told(alloc: Global, tree: &Json) -> Result<String, CaseFault> {
+fn told(alloc: Global, tree: &Json) -> Result<String, CaseFault>
+    requires { IsWellFormed tree.now }
+{
     match compact_string(alloc, tree) {
         Ok(text) => Ok(text),
         Err(CompactFault::FractionUsed) => {

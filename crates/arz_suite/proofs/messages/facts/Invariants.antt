@@ -1,0 +1,5 @@
+use Rattle.arz_flow.specs.Shallow.{HaveShallow}
+use Rattle.arz_suite.proofs.messages.facts.Given as goal
+
+abbrev pub invariant-loop-item : goal.invariant-loop-item
+invariant-loop-item l = HaveShallow l.facts.items
