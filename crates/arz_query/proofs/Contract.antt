@@ -1,5 +1,6 @@
 -- What is answered, by the grammar.
 use Rattle.std.proofs.Common.{◌≡◌, ℕ, List, [], length, ◌-◌, Option, Some, None, Result, Ok, Err, IfOk, IfErr, refl, sym, ap, subst, ◌∙◌}
+use Rattle.std.specs.Result.{IsErrAnd}
 use Rattle.arz_query.specs.Words.{Read, chosen}
 use Rattle.arz_query.specs.Reading.{reading}
 use Rattle.arz_query.specs.Nesting.{too_nested}
@@ -9,7 +10,6 @@ use Rattle.arz_query.specs.declared.pieces.Flaw.{Flaw}
 use Rattle.arz_query.specs.declared.pieces.FlawKind.{FlawKind}
 use Rattle.arz_query.specs.declared.pieces.FlawKind.TheVariants as kind
 use Rattle.arz_query.specs.declared.pieces.Marks.{Marks}
-use Rattle.arz_query.specs.declared.query.Query.{Query}
 use Rattle.arz_query.specs.declared.query.Segment.{Segment}
 use Rattle.arz_query.specs.declared.fault.PathFault.{PathFault}
 use Rattle.arz_query.specs.declared.fault.PathFault.TheVariants as fault
@@ -17,14 +17,17 @@ use Rattle.arz_query.proofs.Inverse.{some_is}
 use Rattle.arz_query.proofs.SoundTerms.{reading_sound}
 use Rattle.arz_query.proofs.Complete.{query_given}
 
-abbrev Answer : Type 0
-Answer = Result Query PathFault
+abbrev pub Answer : Type 0
+Answer = Result (List Segment) PathFault
+
+abbrev pub read_as : ℕ → List Segment → Marks → Answer
+read_as total vs m = chosen m.flaw (λ f. Err (fault_of total f)) (Ok vs)
 
 -- how a text stands, and what it is answered by
 data Stands (text : List ℕ) : Answer → Type 0 where
   nested : (at : ℕ) → too_nested text ≡ Some at → Stands text (Err (fault.TooNested at))
   no_query : too_nested text ≡ None → ((vs : List Segment) (m : Marks) → IsQuery text vs m → ⊥) → Stands text (Err fault.Syntax)
-  query : (vs : List Segment) (m : Marks) → IsRead text vs m → Stands text (due (length text) vs m)
+  query : (vs : List Segment) (m : Marks) → IsRead text vs m → Stands text (read_as (length text) vs m)
 
 stands : (text : List ℕ) → Stands text (answer text)
 unfolding answer
@@ -49,7 +52,7 @@ with_flaw text vs m r f e = go f.kind refl
 
 -- what an answer says of its text
 abbrev Says : List ℕ → Answer → Type 0
-Says text (Ok q) = Spells text q
+Says text (Ok vs) = Spells text vs
 Says text (Err e) = Faults text e
 
 said : (text : List ℕ) (a : Answer) → Stands text a → Says text a
@@ -57,7 +60,7 @@ said text a (nested at e) = e
 said text a (no_query e none) = record { open_enough = e; none = none }
 said text a (query vs m r) = go m.flaw refl
   where
-    go : (o : Option Flaw) → m.flaw ≡ o → Says text (chosen o (λ f. Err (fault_of (length text) f)) (Ok (record { segments = vs })))
+    go : (o : Option Flaw) → m.flaw ≡ o → Says text (chosen o (λ f. Err (fault_of (length text) f)) (Ok vs))
     go None e = record { marks = m; read = r; flawless = e }
     go (Some f) e = with_flaw text vs m r f e
 
@@ -75,17 +78,10 @@ if_ok : (text : List ℕ) (r : Answer) → Says text r → IfOk r (Spells text)
 if_ok text (Ok q) s = s
 if_ok text (Err e) s = tt
 
-if_err : (text : List ℕ) (r : Answer) → Says text r → IfErr r (Faults text)
-if_err text (Ok q) s = tt
-if_err text (Err e) s = s
+pub spells-if : (text : List ℕ) (r : Answer) → Answers r (answer text) → IfOk r (Spells text)
+spells-if text r e = if_ok text r (as_said text r (answer text) e (said text (answer text) (stands text)))
 
-pub ok-if : (text : List ℕ) (r : Answer) → Answers r (answer text) → IfOk r (Spells text)
-ok-if text r e = if_ok text r (as_said text r (answer text) e (said text (answer text) (stands text)))
-
-pub fault-if : (text : List ℕ) (r : Answer) → Answers r (answer text) → IfErr r (Faults text)
-fault-if text r e = if_err text r (as_said text r (answer text) e (said text (answer text) (stands text)))
-
-pub answer-read : (text : List ℕ) (vs : List Segment) (m : Marks) → IsRead text vs m → answer text ≡ due (length text) vs m
+pub answer-read : (text : List ℕ) (vs : List Segment) (m : Marks) → IsRead text vs m → answer text ≡ read_as (length text) vs m
 unfolding answer
 answer-read text vs m d =
     ap (λ t. chosen t (λ at. Err (fault.TooNested at)) (chosen (reading text) (query_of (length text)) (Err fault.Syntax))) d.open_enough
@@ -95,11 +91,89 @@ pub answer-nested : (text : List ℕ) (at : ℕ) → too_nested text ≡ Some at
 unfolding answer
 answer-nested text at e = ap (λ t. chosen t (λ at. Err (fault.TooNested at)) (chosen (reading text) (query_of (length text)) (Err fault.Syntax))) e
 
-pub complete-if : (text : List ℕ) (r : Answer) → Answers r (answer text) → (vs : List Segment) (m : Marks) → IsRead text vs m → Answers r (due (length text) vs m)
-complete-if text r e vs m d = subst (Answers r) (answer-read text vs m d) e
+-- ---- the answer with the text in place of its segments
 
-pub nested-if : (text : List ℕ) (r : Answer) → Answers r (answer text) → (at : ℕ) → too_nested text ≡ Some at → Answers r (Err (fault.TooNested at))
-nested-if text r e at n = subst (Answers r) (answer-nested text at n) e
+abbrev pub Passed : Type 0
+Passed = Result (List ℕ) PathFault
+
+abbrev pub passed : List ℕ → Answer → Passed
+passed text (Ok vs) = Ok text
+passed text (Err e) = Err e
+
+pub answers_then : {X : Type 0} (r s t : Result X PathFault) → Answers r s → Answers s t → Answers r t
+answers_then (Ok q) s t e h = subst (λ x. Answers x t) e h
+answers_then (Err fault.Syntax) s t e h = subst (λ x. Answers x t) e h
+answers_then (Err (fault.IllTyped at)) s t e h = subst (λ x. Answers x t) e h
+answers_then (Err (fault.Fraction at)) s t e h = subst (λ x. Answers x t) e h
+answers_then (Err (fault.IntegerRange at)) s t e h = subst (λ x. Answers x t) e h
+answers_then (Err (fault.TooNested at)) s t e h = subst (λ x. Answers x t) e h
+answers_then (Err fault.Memory) s t e h = tt
+
+pub answers_same : {X : Type 0} (r : Result X PathFault) → Answers r r
+answers_same (Ok q) = refl
+answers_same (Err fault.Syntax) = refl
+answers_same (Err (fault.IllTyped at)) = refl
+answers_same (Err (fault.Fraction at)) = refl
+answers_same (Err (fault.IntegerRange at)) = refl
+answers_same (Err (fault.TooNested at)) = refl
+answers_same (Err fault.Memory) = tt
+
+passed_answers : (text : List ℕ) (r a : Answer) → Answers r a → Answers (passed text r) (passed text a)
+passed_answers text (Ok vs) a e = ap (passed text) e
+passed_answers text (Err fault.Syntax) a e = ap (passed text) e
+passed_answers text (Err (fault.IllTyped at)) a e = ap (passed text) e
+passed_answers text (Err (fault.Fraction at)) a e = ap (passed text) e
+passed_answers text (Err (fault.IntegerRange at)) a e = ap (passed text) e
+passed_answers text (Err (fault.TooNested at)) a e = ap (passed text) e
+passed_answers text (Err fault.Memory) a e = tt
+
+pub exit_passed : (text : List ℕ) (p : Passed) (e : PathFault) → IsErrAnd p (λ y. y ≡ e) → Answers p (passed text (Err e))
+exit_passed text (Ok q) e h = absurd h
+exit_passed text (Err y) e h = subst (λ z. let r : Passed = Err z in Answers (Err y) r) h (answers_same (Err y))
+
+-- what is handed on is an answer to the text
+pub handed : (text : List ℕ) (r : Answer) (p : Passed) → Answers r (answer text) → Answers p (passed text r) → Answers p (passed text (answer text))
+handed text r p e h = answers_then p (passed text r) (passed text (answer text)) h (passed_answers text r (answer text) e)
+
+abbrev SaysText : List ℕ → Passed → Type 0
+SaysText text (Ok q) = Unit {0}
+SaysText text (Err e) = Faults text e
+
+says_text : (text : List ℕ) (a : Answer) → Says text a → SaysText text (passed text a)
+says_text text (Ok vs) s = tt
+says_text text (Err e) s = s
+
+text_said : (text : List ℕ) (r a : Passed) → Answers r a → SaysText text a → SaysText text r
+text_said text (Ok q) a e s = tt
+text_said text (Err fault.Syntax) a e s = subst (SaysText text) e s
+text_said text (Err (fault.IllTyped at)) a e s = subst (SaysText text) e s
+text_said text (Err (fault.Fraction at)) a e s = subst (SaysText text) e s
+text_said text (Err (fault.IntegerRange at)) a e s = subst (SaysText text) e s
+text_said text (Err (fault.TooNested at)) a e s = subst (SaysText text) e s
+text_said text (Err fault.Memory) a e s = tt
+
+handed_said : (text : List ℕ) (p : Passed) → Answers p (passed text (answer text)) → SaysText text p
+handed_said text p e = text_said text p (passed text (answer text)) e (says_text text (answer text) (said text (answer text) (stands text)))
+
+fault_in : (text : List ℕ) (p : Passed) → SaysText text p → IfErr p (Faults text)
+fault_in text (Ok q) s = tt
+fault_in text (Err e) s = s
+
+pub fault-if : (text : List ℕ) (p : Passed) → Answers p (passed text (answer text)) → IfErr p (Faults text)
+fault-if text p e = fault_in text p (handed_said text p e)
+
+due_passed : (text : List ℕ) (vs : List Segment) (m : Marks) → passed text (read_as (length text) vs m) ≡ due text m
+due_passed text vs m = go m.flaw
+  where
+    go : (o : Option Flaw) → passed text (chosen o (λ f. Err (fault_of (length text) f)) (Ok vs)) ≡ chosen o (λ f. Err (fault_of (length text) f)) (Ok text)
+    go None = refl
+    go (Some f) = refl
+
+pub complete-if : (text : List ℕ) (p : Passed) → Answers p (passed text (answer text)) → (vs : List Segment) (m : Marks) → IsRead text vs m → Answers p (due text m)
+complete-if text p e vs m d = subst (Answers p) (ap (passed text) (answer-read text vs m d) ∙ due_passed text vs m) e
+
+pub nested-if : (text : List ℕ) (p : Passed) → Answers p (passed text (answer text)) → (at : ℕ) → too_nested text ≡ Some at → Answers p (Err (fault.TooNested at))
+nested-if text p e at n = subst (Answers p) (ap (passed text) (answer-nested text at n)) e
 
 pub one-reading : (text : List ℕ) (vs ws : List Segment) (m n : Marks) → IsQuery text vs m → IsQuery text ws n → AreSame vs ws m n
 one-reading text vs ws m n p q =

@@ -8,7 +8,6 @@ use Rattle.arz_query.specs.declared.pieces.Flaw.{Flaw}
 use Rattle.arz_query.specs.declared.pieces.FlawKind.{FlawKind}
 use Rattle.arz_query.specs.declared.pieces.Marks.{Marks}
 use Rattle.arz_query.specs.declared.pieces.FlawKind.TheVariants as kind
-use Rattle.arz_query.specs.declared.query.Query.{Query}
 use Rattle.arz_query.specs.declared.query.Segment.{Segment}
 use Rattle.arz_query.specs.declared.fault.PathFault.{PathFault}
 use Rattle.arz_query.specs.declared.fault.PathFault.TheVariants as fault
@@ -22,14 +21,15 @@ fault_at kind.IntegerRange at = fault.IntegerRange at
 abbrev pub fault_of : ℕ → Flaw → PathFault
 fault_of total f = fault_at f.kind (total - f.left)
 
-abbrev pub query_of : ℕ → Read (List Segment) → Result Query PathFault
-query_of total all = chosen all.marks.flaw (λ f. Err (fault_of total f)) (Ok (record { segments = all.value }))
+abbrev pub query_of : ℕ → Read (List Segment) → Result (List Segment) PathFault
+query_of total all = chosen all.marks.flaw (λ f. Err (fault_of total f)) (Ok all.value)
 
-unfoldable pub answer : List ℕ → Result Query PathFault
+-- what a text is read as
+unfoldable pub answer : List ℕ → Result (List Segment) PathFault
 answer text = chosen (too_nested text) (λ at. Err (fault.TooNested at)) (chosen (reading text) (query_of (length text)) (Err fault.Syntax))
 
 -- that is answered, unless memory ran out
-abbrev pub Answers : Result Query PathFault → Result Query PathFault → Type 0
+abbrev pub Answers : {X : Type 0} → Result X PathFault → Result X PathFault → Type 0
 Answers (Ok q) meant = meant ≡ Ok q
 Answers (Err fault.Syntax) meant = meant ≡ Err fault.Syntax
 Answers (Err (fault.IllTyped at)) meant = meant ≡ Err (fault.IllTyped at)
@@ -45,11 +45,16 @@ pub record IsRead (text : List ℕ) (vs : List Segment) (m : Marks) : Type 0 whe
   pub open_enough : too_nested text ≡ None
   pub query : IsQuery text vs m
 
--- the query that a text without flaw spells
-pub record Spells (text : List ℕ) (q : Query) : Type 0 where
+-- a text without flaw spells these segments
+pub record Spells (text : List ℕ) (vs : List Segment) : Type 0 where
   pub marks : Marks
-  pub read : IsRead text q.segments marks
+  pub read : IsRead text vs marks
   pub flawless : marks.flaw ≡ None
+
+-- a text without flaw that is a query
+pub record IsSpelled (text : List ℕ) : Type 0 where
+  pub segments : List Segment
+  pub spells : Spells text segments
 
 -- the flaw with the least offset of a text of the grammar
 pub record HasFlaw (text : List ℕ) (e : PathFault) : Type 0 where
@@ -74,9 +79,9 @@ Faults text (fault.IntegerRange at) = HasFlaw text (fault.IntegerRange at)
 Faults text (fault.TooNested at) = too_nested text ≡ Some at
 Faults text fault.Memory = Unit {0}
 
--- what the text's only reading is answered by
-abbrev pub due : ℕ → List Segment → Marks → Result Query PathFault
-due total vs m = chosen m.flaw (λ f. Err (fault_of total f)) (Ok (record { segments = vs }))
+-- what a text of the grammar is answered by, with the marks of its only reading
+abbrev pub due : List ℕ → Marks → Result (List ℕ) PathFault
+due text m = chosen m.flaw (λ f. Err (fault_of (length text) f)) (Ok text)
 
 -- the same query, and the same marks
 abbrev pub AreSame : List Segment → List Segment → Marks → Marks → Type 0

@@ -1,17 +1,13 @@
-// The query that a text is.
-ghost use Rattle.std.specs.Prelude.{◌≡◌, ℕ, List, length, IfOk, IfErr, Some, Err};
+// What the text of a query is read as.
+ghost use Rattle.std.specs.Prelude.{◌≡◌};
 ghost use Rattle.arz_query.specs.Words.{Gives, as_read};
 ghost use Rattle.arz_query.specs.Reading.{reading};
-ghost use Rattle.arz_query.specs.Nesting.{too_nested as nested_too_deep};
-ghost use Rattle.arz_query.specs.Answers.{fault_of, answer, Answers, IsRead, Spells, Faults, due};
-ghost use Rattle.arz_query.specs.declared.pieces.Marks.{Marks};
-ghost use Rattle.arz_query.specs.declared.query.Segment.{Segment};
-ghost use Rattle.arz_query.specs.declared.fault.PathFault.TheVariants.{TooNested};
+ghost use Rattle.arz_query.specs.Answers.{fault_of, answer, Answers};
 
 use crate::fault::PathFault;
 use crate::nesting::too_nested;
 use crate::pieces::{Flaw, FlawKind, Part, ReadFault};
-use crate::query::{Query, Segment};
+use crate::query::Segment;
 use crate::reading::segments;
 use crate::words::after;
 use sqlite_items::Items;
@@ -45,8 +41,9 @@ fn fault_in(total: usize, flaw: Flaw) -> PathFault
     }
 }
 
+/// The segments of the query that a text is, or the fault that it has.
 #[tactic(auto, unfolding(crate::specs::Answers::answer))]
-fn answered(alloc: Global, text: &[u8]) -> Result<Query, PathFault>
+pub(crate) fn answered(alloc: Global, text: &[u8]) -> Result<Items<Segment>, PathFault>
     ensures { Answers result (answer text.now) }
 {
     if let Some(at) = too_nested(text) {
@@ -60,24 +57,5 @@ fn answered(alloc: Global, text: &[u8]) -> Result<Query, PathFault>
     if let Some(flaw) = all.marks.flaw {
         return Err(fault_in(text.len(), flaw));
     }
-    Ok(Query {
-        segments: all.value,
-    })
-}
-
-impl Query {
-    /// The query that a text is (RFC 9535), or the fault that it has. Where a number of the text is past
-    /// its range or has a fraction, or a part isn't well-typed, the fault is that of the flaw with the least
-    /// offset.
-    pub fn read(alloc: Global, text: &str) -> Result<Query, PathFault>
-        // What is read is spelled by the text, and each fault is one of it.
-        ensures ok { IfOk result (Spells text.now) }
-        ensures fault { IfErr result (Faults text.now) }
-
-        // Unless memory ran out, a text of the grammar is answered by what it spells.
-        ensures complete { (vs : List Segment) (m : Marks) → IsRead text.now vs m → Answers result (due (length text.now) vs m) }
-        ensures too_nested { (at : ℕ) → nested_too_deep text.now ≡ Some at → Answers result (Err (TooNested at)) }
-    {
-        answered(alloc, text.as_bytes())
-    }
+    Ok(all.value)
 }

@@ -12,11 +12,13 @@ mod query;
 mod quoted;
 mod reading;
 mod selectors;
+mod spelled;
 mod terms;
 mod text;
 mod words;
 
 pub use fault::PathFault;
 pub use nesting::MAX_OPEN;
-pub use query::{Comparison, Operand, Query, Segment, Selector, Slice, Start, Test};
+pub use query::{Comparison, Operand, Segment, Selector, Slice, Start, Test};
+pub use spelled::Query;
 pub use text::Text;

@@ -1,12 +1,6 @@
 use crate::text::Text;
 use sqlite_items::{Boxed, Items};
 
-/// A query (RFC 9535, section 2.1): the segments after `$`.
-#[derive(Debug, Drop)]
-pub struct Query {
-    pub segments: Items<Segment>,
-}
-
 /// A segment (RFC 9535, section 2.5).
 #[cycle(query)]
 #[derive(Debug, Drop)]
