@@ -8,7 +8,7 @@ use Rattle.arz_query.specs.declared.query.Slice.{Slice}
 use Rattle.arz_query.specs.declared.query.Start.{Start}
 use Rattle.arz_query.specs.declared.query.Comparison.{Comparison}
 use Rattle.arz_query.specs.declared.query.Test.{Test}
-use Rattle.arz_query.specs.declared.query.Test.TheVariants.{Any, All, Neither, Exists, Compare, Match, Search}
+use Rattle.arz_query.specs.declared.query.Test.TheVariants.{Any, All, Not, Exists, Compare, Match, Search}
 use Rattle.arz_query.specs.declared.query.Operand.{Operand}
 use Rattle.arz_query.specs.declared.query.Operand.TheVariants.{Null, Flag, Int, Text, Query, Length, Count, Value}
 use Rattle.arz_query.specs.declared.query.Operand.TheOpen.{Segment-F, Selector-F, Test-F, Operand-F}
@@ -45,8 +45,8 @@ meaning-Any ts setting current = ap (λ (f : TestMeaning). f setting current) (a
 pub meaning-All : (ts : List Test) (setting : Setting) (current : Json) → test_meaning (All ts) setting current ≡ test_step (Test-F.All (map test_meaning ts)) setting current
 meaning-All ts setting current = ap (λ (f : TestMeaning). f setting current) (ap test_meaning (sym (views.rolls-All ts)) ∙ fold-roll-Test _ _ _ _ operand_step segment_step selector_step test_step (Test-F.All ts))
 
-pub meaning-Neither : (ts : List Test) (setting : Setting) (current : Json) → test_meaning (Neither ts) setting current ≡ test_step (Test-F.Neither (map test_meaning ts)) setting current
-meaning-Neither ts setting current = ap (λ (f : TestMeaning). f setting current) (ap test_meaning (sym (views.rolls-Neither ts)) ∙ fold-roll-Test _ _ _ _ operand_step segment_step selector_step test_step (Test-F.Neither ts))
+pub meaning-Not : (t : Test) (setting : Setting) (current : Json) → test_meaning (Not t) setting current ≡ test_step (Test-F.Not (test_meaning t)) setting current
+meaning-Not t setting current = ap (λ (f : TestMeaning). f setting current) (ap test_meaning (sym (views.rolls-Not t)) ∙ fold-roll-Test _ _ _ _ operand_step segment_step selector_step test_step (Test-F.Not t))
 
 pub meaning-Exists : (s : Start) (ss : List Segment) (setting : Setting) (current : Json) → test_meaning (Exists s ss) setting current ≡ test_step (Test-F.Exists s (map segment_meaning ss)) setting current
 meaning-Exists s ss setting current = ap (λ (f : TestMeaning). f setting current) (ap test_meaning (sym (views.rolls-Exists s ss)) ∙ fold-roll-Test _ _ _ _ operand_step segment_step selector_step test_step (Test-F.Exists s ss))
@@ -75,8 +75,8 @@ meaning-Text t setting current = ap (λ (f : OperandMeaning). f setting current)
 pub meaning-Query : (s : Start) (ss : List Segment) (setting : Setting) (current : Json) → operand_meaning (Query s ss) setting current ≡ operand_step (Operand-F.Query s (map segment_meaning ss)) setting current
 meaning-Query s ss setting current = ap (λ (f : OperandMeaning). f setting current) (ap operand_meaning (sym (views.rolls-Query s ss)) ∙ fold-roll-Operand _ _ _ _ operand_step segment_step selector_step test_step (Operand-F.Query s ss))
 
-pub meaning-Length : (os : List Operand) (setting : Setting) (current : Json) → operand_meaning (Length os) setting current ≡ operand_step (Operand-F.Length (map operand_meaning os)) setting current
-meaning-Length os setting current = ap (λ (f : OperandMeaning). f setting current) (ap operand_meaning (sym (views.rolls-Length os)) ∙ fold-roll-Operand _ _ _ _ operand_step segment_step selector_step test_step (Operand-F.Length os))
+pub meaning-Length : (o : Operand) (setting : Setting) (current : Json) → operand_meaning (Length o) setting current ≡ operand_step (Operand-F.Length (operand_meaning o)) setting current
+meaning-Length o setting current = ap (λ (f : OperandMeaning). f setting current) (ap operand_meaning (sym (views.rolls-Length o)) ∙ fold-roll-Operand _ _ _ _ operand_step segment_step selector_step test_step (Operand-F.Length o))
 
 pub meaning-Count : (s : Start) (ss : List Segment) (setting : Setting) (current : Json) → operand_meaning (Count s ss) setting current ≡ operand_step (Operand-F.Count s (map segment_meaning ss)) setting current
 meaning-Count s ss setting current = ap (λ (f : OperandMeaning). f setting current) (ap operand_meaning (sym (views.rolls-Count s ss)) ∙ fold-roll-Operand _ _ _ _ operand_step segment_step selector_step test_step (Operand-F.Count s ss))
@@ -84,4 +84,4 @@ meaning-Count s ss setting current = ap (λ (f : OperandMeaning). f setting curr
 pub meaning-Value : (s : Start) (ss : List Segment) (setting : Setting) (current : Json) → operand_meaning (Value s ss) setting current ≡ operand_step (Operand-F.Value s (map segment_meaning ss)) setting current
 meaning-Value s ss setting current = ap (λ (f : OperandMeaning). f setting current) (ap operand_meaning (sym (views.rolls-Value s ss)) ∙ fold-roll-Operand _ _ _ _ operand_step segment_step selector_step test_step (Operand-F.Value s ss))
 
-pub ruleset meanings = (meaning-Child, meaning-Descendant, meaning-Name, meaning-Wildcard, meaning-Index, meaning-Slice, meaning-Filter, meaning-Any, meaning-All, meaning-Neither, meaning-Exists, meaning-Compare, meaning-Match, meaning-Search, meaning-Null, meaning-Flag, meaning-Int, meaning-Text, meaning-Query, meaning-Length, meaning-Count, meaning-Value)
+pub ruleset meanings = (meaning-Child, meaning-Descendant, meaning-Name, meaning-Wildcard, meaning-Index, meaning-Slice, meaning-Filter, meaning-Any, meaning-All, meaning-Not, meaning-Exists, meaning-Compare, meaning-Match, meaning-Search, meaning-Null, meaning-Flag, meaning-Int, meaning-Text, meaning-Query, meaning-Length, meaning-Count, meaning-Value)

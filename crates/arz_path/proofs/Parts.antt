@@ -1,5 +1,5 @@
 -- What each part of a query means, as the code goes.
-use Rattle.std.proofs.Common.{◌≡◌, ℕ, List, [], ◌∷◌, ◌++◌, map, length, not, nat_lt, Option, refl, ap, ap₂, ◌∙◌, arith}
+use Rattle.std.proofs.Common.{◌≡◌, ℕ, List, [], ◌∷◌, ◌++◌, map, length, nat_lt, Option, refl, ap, ap₂, ◌∙◌, arith}
 use Rattle.std.proofs.lemmas.Grind.{common_steps}
 use Rattle.std.specs.List.{flat_map, list_any, list_all}
 use Rattle.std.specs.Prelude.{filter}
@@ -10,17 +10,14 @@ use Rattle.arz_query.specs.declared.query.Segment.TheVariants.{Child, Descendant
 use Rattle.arz_query.specs.declared.query.Selector.{Selector}
 use Rattle.arz_query.specs.declared.query.Selector.TheVariants.{Name, Filter}
 use Rattle.arz_query.specs.declared.query.Test.{Test}
-use Rattle.arz_query.specs.declared.query.Test.TheVariants.{Any, All, Neither, Exists}
-use Rattle.arz_query.specs.declared.query.Operand.{Operand}
-use Rattle.arz_query.specs.declared.query.Query.{Query}
-use Rattle.arz_query.specs.declared.query.Operand.TheVariants.{Query as QueryOf, Length, Count, Value}
+use Rattle.arz_query.specs.declared.query.Test.TheVariants.{Any, All, Exists}
+use Rattle.arz_query.specs.declared.query.Operand.TheVariants.{Query as QueryOf, Count, Value}
 use Rattle.arz_path.specs.Outcome.{Outcome, given, wide, untold, and_then, outcome_map, each, parts}
 use Rattle.arz_path.specs.Tree.{Node, children, members_of, member_child, preorder}
-use Rattle.arz_path.specs.Values.{length_of}
-use Rattle.arz_path.specs.Selected.{places, is_any, place_of, selected, Setting, SelectorMeaning, TestMeaning, OperandMeaning, limited, below_node, is_name, is_some_node, only, count_of, started, segment_meaning, selector_meaning, test_meaning, operand_meaning}
-use Rattle.arz_path.specs.Seen.{grown, chosen, chosen_all, picked, kept_all, tested_all, valued_all, run_all, found_all, found_in}
+use Rattle.arz_path.specs.Selected.{places, is_any, place_of, selected, Setting, SelectorMeaning, TestMeaning, limited, below_node, is_name, is_some_node, only, count_of, started, segment_meaning, selector_meaning, test_meaning, operand_meaning}
+use Rattle.arz_path.specs.Seen.{grown, chosen, chosen_all, picked, kept_all, tested_all, run_all, found_all, found_in}
 use Rattle.arz_path.proofs.Levels.{named_children}
-use Rattle.arz_path.proofs.Meanings.{meaning-Child, meaning-Descendant, meaning-Name, meaning-Filter, meaning-Any, meaning-All, meaning-Neither, meaning-Exists, meaning-Query, meaning-Length, meaning-Count, meaning-Value}
+use Rattle.arz_path.proofs.Meanings.{meaning-Child, meaning-Descendant, meaning-Name, meaning-Filter, meaning-Any, meaning-All, meaning-Exists, meaning-Query, meaning-Count, meaning-Value}
 
 pub each-map : {X Y Z : Type 0} (f : Y → Outcome (List Z)) (h : X → Y) (xs : List X) → each f (map h xs) ≡ each (λ x. f (h x)) xs
 each-map f h [] = refl
@@ -67,21 +64,11 @@ test-Any ts setting current = meaning-Any ts setting current ∙ ap (outcome_map
 pub test-All : (ts : List Test) (setting : Setting) (current : Json) → test_meaning (All ts) setting current ≡ outcome_map (list_all (λ b. b)) (tested_all setting current ts)
 test-All ts setting current = meaning-All ts setting current ∙ ap (outcome_map (list_all (λ b. b))) (tests ts setting current)
 
-pub test-Neither : (ts : List Test) (setting : Setting) (current : Json) → test_meaning (Neither ts) setting current ≡ outcome_map (λ bs. not (list_any (λ b. b) bs)) (tested_all setting current ts)
-test-Neither ts setting current = meaning-Neither ts setting current ∙ ap (outcome_map (λ bs. not (list_any (λ b. b) bs))) (tests ts setting current)
-
 pub test-Exists : (start : Start) (ss : List Segment) (setting : Setting) (current : Json) → test_meaning (Exists start ss) setting current ≡ outcome_map is_some_node (found_all setting current start ss)
 unfolding found_all
 test-Exists start ss setting current = meaning-Exists start ss setting current
 
 -- ---- operands
-
-operands : (os : List Operand) (setting : Setting) (current : Json) → parts (λ (o : OperandMeaning). o setting current) (map operand_meaning os) ≡ valued_all setting current os
-unfolding valued_all
-operands os setting current = each-map (λ (o : OperandMeaning). outcome_map (λ x. x ∷ []) (o setting current)) operand_meaning os
-
-pub operand-Length : (os : List Operand) (setting : Setting) (current : Json) → operand_meaning (Length os) setting current ≡ outcome_map length_of (valued_all setting current os)
-operand-Length os setting current = meaning-Length os setting current ∙ ap (outcome_map length_of) (operands os setting current)
 
 pub operand-Query : (start : Start) (ss : List Segment) (setting : Setting) (current : Json) → operand_meaning (QueryOf start ss) setting current ≡ outcome_map only (found_all setting current start ss)
 unfolding found_all
@@ -101,13 +88,13 @@ pub found-run : (setting : Setting) (current : Json) (start : Start) (ss : List 
 unfolding found_all run_all
 found-run setting current start ss = refl
 
-pub places-run : (q : Query) (setting : Setting) → places q setting ≡ outcome_map (map place_of) (run_all setting q.segments (([], setting.root) ∷ []))
+pub places-run : (vs : List Segment) (setting : Setting) → places vs setting ≡ outcome_map (map place_of) (run_all setting vs (([], setting.root) ∷ []))
 unfolding places selected run_all
-places-run q setting = refl
+places-run vs setting = refl
 
-pub is_any-run : (q : Query) (setting : Setting) → is_any q setting ≡ outcome_map is_some_node (run_all setting q.segments (([], setting.root) ∷ []))
+pub is_any-run : (vs : List Segment) (setting : Setting) → is_any vs setting ≡ outcome_map is_some_node (run_all setting vs (([], setting.root) ∷ []))
 unfolding is_any selected run_all
-is_any-run q setting = refl
+is_any-run vs setting = refl
 
 -- what follows from how many nodes there are and the value of the only one
 pub of_found : {Y : Type 0} (f : List Node → Y) (h : ℕ × Option Json → Y) → ((ns : List Node) → f ns ≡ h (found_in ns)) →

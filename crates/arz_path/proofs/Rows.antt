@@ -50,7 +50,7 @@ pairs = ListOf (Object (record { name = a; value = Int (pos 1) } ∷ record { na
     ∷ Object (record { name = a; value = Int (pos 1) } ∷ record { name = b; value = Int (pos 2) } ∷ []) ∷ Object [] ∷ [])
 
 abbrev selects : List Segment → Json → List (List Token) → Type 0
-selects ss root found = (told : List ℕ → List ℕ → Told) → places (record { segments = ss }) (record { told = told; root = root }) ≡ given found
+selects ss root found = (told : List ℕ → List ℕ → Told) → places ss (record { told = told; root = root }) ≡ given found
 
 abbrev at : List ℕ → Segment
 at name = Child (selector.Name name ∷ [])

@@ -22,7 +22,6 @@ use Rattle.arz_json.proofs.Layers.{folded-Object}
 use Rattle.arz_json.proofs.Parts.{IsWithin-item, IsWithin-list_in, IsWithin-object_in, IsWithin-member_in}
 use Rattle.arz_json.proofs.Induction.{Each, EachValue, Levels, induction}
 use Rattle.arz_rx.specs.Patterns.{PatternsView}
-use Rattle.arz_query.specs.declared.query.Query.{Query}
 use Rattle.arz_query.specs.declared.query.Segment.{Segment}
 use Rattle.arz_query.specs.declared.query.Selector.{Selector}
 use Rattle.arz_query.specs.declared.query.Slice.{Slice}
@@ -333,6 +332,6 @@ module _ (n : ℕ) (root : Json) (whole : IsWithin n root) where
       of wide h f = tt
       of untold h f = tt
 
-pub selected_is_found : (query : Query) (root : Json) (patterns : PatternsView) → IsWellFormed root → EachGiven (IsFound root) (selected query (setting_of patterns root))
+pub selected_is_found : (vs : List Segment) (root : Json) (patterns : PatternsView) → IsWellFormed root → EachGiven (IsFound root) (selected vs (setting_of patterns root))
 unfolding selected
-selected_is_found query root patterns whole = run_found max_depth root whole (setting_of patterns root) query.segments (([], root) ∷ []) (refl, tt)
+selected_is_found vs root patterns whole = run_found max_depth root whole (setting_of patterns root) vs (([], root) ∷ []) (refl, tt)

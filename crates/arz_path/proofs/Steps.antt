@@ -1,19 +1,17 @@
 -- One more round of each loop of the evaluation.
-use Rattle.std.proofs.Common.{◌≡◌, ◌≤◌, List, [], ◌∷◌, ◌++◌, map, length, Bool, true, false, Option, sym, ap, subst, ◌∙◌, append-nil}
+use Rattle.std.proofs.Common.{◌≡◌, ◌≤◌, List, [], ◌∷◌, ◌++◌, map, length, Bool, true, false, sym, ap, subst, ◌∙◌, append-nil}
 use Rattle.std.proofs.lemmas.List.{map-append, length-map}
 use Rattle.arz_json.specs.declared.tree.Json.{Json}
 use Rattle.arz_query.specs.declared.query.Segment.{Segment}
 use Rattle.arz_query.specs.declared.query.Selector.{Selector}
 use Rattle.arz_query.specs.declared.query.Test.{Test}
-use Rattle.arz_query.specs.declared.query.Operand.{Operand}
 use Rattle.arz_path.specs.declared.place.Token.{Token}
 use Rattle.arz_path.specs.declared.nodes.Held.{Held}
 use Rattle.arz_path.specs.declared.nodes.Branch.{Branch}
-use Rattle.arz_path.specs.declared.values.Worth.{Worth}
 use Rattle.arz_path.specs.Outcome.{Outcome, given, wide, outcome_map, each, Covers}
 use Rattle.arz_path.specs.Tree.{Node}
-use Rattle.arz_path.specs.Selected.{Setting, widest, limited, kept, below_node, run, segment_meaning, selector_meaning, test_meaning, operand_meaning}
-use Rattle.arz_path.specs.Seen.{seen, branch_of, worth_seen, joined, grown, picked, chosen, chosen_all, kept_all, tested_all, valued_all, run_all}
+use Rattle.arz_path.specs.Selected.{Setting, widest, limited, kept, below_node, run, segment_meaning, selector_meaning, test_meaning}
+use Rattle.arz_path.specs.Seen.{seen, branch_of, joined, grown, picked, chosen, chosen_all, kept_all, tested_all, run_all}
 use Rattle.arz_path.proofs.Outcomes.{covers_trans, through, stops, through_map, stops_map, joined_step, joined_stop, joined_none}
 use Rattle.arz_path.proofs.Growth.{grown_step, grown_wide, grown_fault, all_step, all_wide, grown_end}
 
@@ -57,22 +55,6 @@ module _ (s s' : Setting) (e : s' ≡ s) where
     tested_fault k = joined_stop w (λ t. outcome_map (λ y. y ∷ []) (test_meaning t s current)) old x rest'
         (subst (λ r. Covers w (joined old (each (λ t. outcome_map (λ y. y ∷ []) (test_meaning t s current)) r))) cut h)
         (stops_map (λ y. y ∷ []) (test_meaning x s current) (subst (λ z. Covers (test_meaning x z current) wide) e k))
-
-  -- ---- operands
-  module _ (current : Json) (w : Outcome (List (Option Json))) (old new : List Worth) (x : Operand) (rest rest' : List Operand) (cut : rest ≡ x ∷ rest')
-      (h : Covers w (joined (map worth_seen old) (valued_all s current rest))) where
-    pub valued_step : (v : Worth) → new ≡ old ++ v ∷ [] → Covers (operand_meaning x s' current) (given (worth_seen v)) → Covers w (joined (map worth_seen new) (valued_all s current rest'))
-    unfolding valued_all
-    valued_step v pushed k = subst (λ ys. Covers w (joined ys (valued_all s current rest'))) (map_push worth_seen old new v pushed)
-        (joined_step w (λ o. outcome_map (λ y. y ∷ []) (operand_meaning o s current)) (map worth_seen old) (worth_seen v ∷ []) x rest'
-        (subst (λ r. Covers w (joined (map worth_seen old) (each (λ o. outcome_map (λ y. y ∷ []) (operand_meaning o s current)) r))) cut h)
-        (through_map (λ y. y ∷ []) (operand_meaning x s current) (worth_seen v) (subst (λ z. Covers (operand_meaning x z current) (given (worth_seen v))) e k)))
-
-    pub valued_fault : Covers (operand_meaning x s' current) wide → Covers w wide
-    unfolding valued_all
-    valued_fault k = joined_stop w (λ o. outcome_map (λ y. y ∷ []) (operand_meaning o s current)) (map worth_seen old) x rest'
-        (subst (λ r. Covers w (joined (map worth_seen old) (each (λ o. outcome_map (λ y. y ∷ []) (operand_meaning o s current)) r))) cut h)
-        (stops_map (λ y. y ∷ []) (operand_meaning x s current) (subst (λ z. Covers (operand_meaning x z current) wide) e k))
 
   -- ---- segments
   module _ (w : Outcome (List Node)) (x : Segment) (rest rest' : List Segment) (cut : rest ≡ x ∷ rest') (ns : List Node)
@@ -130,10 +112,6 @@ kept_end s t w old h = joined_none w old h
 pub tested_end : (s : Setting) (current : Json) (w : Outcome (List Bool)) (old : List Bool) → Covers w (joined old (tested_all s current [])) → Covers w (given old)
 unfolding tested_all
 tested_end s current w old h = joined_none w old h
-
-pub valued_end : (s : Setting) (current : Json) (w : Outcome (List (Option Json))) (old : List (Option Json)) → Covers w (joined old (valued_all s current [])) → Covers w (given old)
-unfolding valued_all
-valued_end s current w old h = joined_none w old h
 
 pub run_end : (s : Setting) (w : Outcome (List Node)) (ns : List Node) → Covers w (run_all s [] ns) → Covers w (given ns)
 unfolding run_all

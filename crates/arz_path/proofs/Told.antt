@@ -1,5 +1,5 @@
 -- Where something is told of each pattern, each part of a query says something.
-use Rattle.std.proofs.Common.{ℕ, Bool, true, false, cond, List, [], ◌∷◌, ◌++◌, map, length, nat_lt, Option, Some, None, option_and_then, sym, subst}
+use Rattle.std.proofs.Common.{ℕ, Bool, true, false, cond, List, [], ◌∷◌, ◌++◌, map, length, not, nat_lt, Option, Some, None, option_and_then, sym, subst}
 use Rattle.std.specs.List.{flat_map}
 use Rattle.std.specs.Option.{IsSome}
 use Rattle.arz_json.specs.Look.{text_in}
@@ -7,7 +7,6 @@ use Rattle.arz_json.specs.declared.tree.Json.{Json}
 use Rattle.arz_rx.specs.Patterns.{Told}
 use Rattle.arz_rx.specs.Mapping.{mapped}
 use Rattle.arz_query.specs.declared.query.Start.{Start}
-use Rattle.arz_query.specs.declared.query.Query.{Query}
 use Rattle.arz_query.specs.declared.query.Segment.{Segment}
 use Rattle.arz_query.specs.declared.query.Selector.{Selector}
 use Rattle.arz_query.specs.declared.query.Test.{Test}
@@ -17,10 +16,11 @@ use Rattle.arz_query.specs.declared.query.Operand.TheFolds.{ind-Segment, map-Seg
 use Rattle.arz_query.specs.declared.query.Operand.TheViews as views
 use Rattle.arz_path.specs.Outcome.{Outcome, given, wide, untold, and_then, outcome_map, each}
 use Rattle.arz_path.specs.Tree.{Node, children, preorder}
+use Rattle.arz_path.specs.Values.{length_of}
 use Rattle.arz_path.specs.Selected.{Setting, widest, started, run, kept, below_node, answered, searched, searched_in, pair_of, selected, segment_meaning, selector_meaning, test_meaning, operand_meaning, TellsAll, IsTold}
-use Rattle.arz_path.specs.Seen.{grown, chosen, chosen_all, picked, kept_all, tested_all, valued_all, found_all}
-use Rattle.arz_path.proofs.Meanings.{meaning-Name, meaning-Wildcard, meaning-Index, meaning-Slice, meaning-Compare, meaning-Match, meaning-Search, meaning-Null, meaning-Flag, meaning-Int, meaning-Text}
-use Rattle.arz_path.proofs.Parts.{segment-Child, segment-Descendant, selector-Filter, test-Any, test-All, test-Neither, test-Exists, operand-Length, operand-Query, operand-Value, operand-Count}
+use Rattle.arz_path.specs.Seen.{grown, chosen, chosen_all, picked, kept_all, tested_all, found_all}
+use Rattle.arz_path.proofs.Meanings.{meaning-Name, meaning-Wildcard, meaning-Index, meaning-Slice, meaning-Not, meaning-Compare, meaning-Match, meaning-Search, meaning-Null, meaning-Flag, meaning-Int, meaning-Text, meaning-Length}
+use Rattle.arz_path.proofs.Parts.{segment-Child, segment-Descendant, selector-Filter, test-Any, test-All, test-Exists, operand-Query, operand-Value, operand-Count}
 
 then_told : {X Y : Type 0} (f : X → Outcome Y) (o : Outcome X) → IsTold o → ((x : X) → IsTold (f x)) → IsTold (and_then f o)
 then_told f (given x) h k = k x
@@ -124,10 +124,6 @@ module _ (setting : Setting) (tells : TellsAll setting) where
   unfolding tested_all
   tests_told es j = held_told (λ t. outcome_map (λ b. b ∷ []) (test_meaning t setting j)) (λ e. map_told (λ b. b ∷ []) (test_meaning e.0 setting j) (e.1 j)) es
 
-  values_told : (es : List HeldOperand) (j : Json) → IsTold (valued_all setting j (map (λ e. e.0) es))
-  unfolding valued_all
-  values_told es j = held_told (λ o. outcome_map (λ x. x ∷ []) (operand_meaning o setting j)) (λ e. map_told (λ x. x ∷ []) (operand_meaning e.0 setting j) (e.1 j)) es
-
   pair_told : (a b : HeldOperand) (j : Json) → IsTold (pair_of (operand_meaning a.0) (operand_meaning b.0) setting j)
   pair_told a b j = then_told (λ x. outcome_map (λ y. (x, y)) (operand_meaning b.0 setting j)) (operand_meaning a.0 setting j) (a.1 j) (λ x. map_told (λ (y : Option Json). let p : Option Json × Option Json = (x, y) in p) (operand_meaning b.0 setting j) (b.1 j))
 
@@ -135,7 +131,7 @@ module _ (setting : Setting) (tells : TellsAll setting) where
       OfTest (views.roll-Test (map-Test HeldOperand HeldSegment HeldSelector HeldTest Operand Segment Selector Test (λ e. e.0) (λ e. e.0) (λ e. e.0) (λ e. e.0) y))
   level_test (Test-F.Any es) = subst OfTest (sym (views.rolls-Any (map (λ e. e.0) es))) (λ j. subst IsTold (sym (test-Any (map (λ e. e.0) es) setting j)) (map_told _ (tested_all setting j (map (λ e. e.0) es)) (tests_told es j)))
   level_test (Test-F.All es) = subst OfTest (sym (views.rolls-All (map (λ e. e.0) es))) (λ j. subst IsTold (sym (test-All (map (λ e. e.0) es) setting j)) (map_told _ (tested_all setting j (map (λ e. e.0) es)) (tests_told es j)))
-  level_test (Test-F.Neither es) = subst OfTest (sym (views.rolls-Neither (map (λ e. e.0) es))) (λ j. subst IsTold (sym (test-Neither (map (λ e. e.0) es) setting j)) (map_told _ (tested_all setting j (map (λ e. e.0) es)) (tests_told es j)))
+  level_test (Test-F.Not e) = subst OfTest (sym (views.rolls-Not e.0)) (λ j. subst IsTold (sym (meaning-Not e.0 setting j)) (map_told not (test_meaning e.0 setting j) (e.1 j)))
   level_test (Test-F.Exists s es) = subst OfTest (sym (views.rolls-Exists s (map (λ e. e.0) es))) (λ j. subst IsTold (sym (test-Exists s (map (λ e. e.0) es) setting j)) (map_told _ (found_all setting j s (map (λ e. e.0) es)) (found_told es s j)))
   level_test (Test-F.Compare a op b) = subst OfTest (sym (views.rolls-Compare a.0 op b.0)) (λ j. subst IsTold (sym (meaning-Compare a.0 op b.0 setting j)) (map_told _ (pair_of (operand_meaning a.0) (operand_meaning b.0) setting j) (pair_told a b j)))
   level_test (Test-F.Match a b) = subst OfTest (sym (views.rolls-Match a.0 b.0)) (λ j. subst IsTold (sym (meaning-Match a.0 b.0 setting j))
@@ -150,7 +146,7 @@ module _ (setting : Setting) (tells : TellsAll setting) where
   level_operand (Operand-F.Int z) = subst OfOperand (sym (views.rolls-Int z)) (λ j. subst IsTold (sym (meaning-Int z setting j)) tt)
   level_operand (Operand-F.Text s) = subst OfOperand (sym (views.rolls-Text s)) (λ j. subst IsTold (sym (meaning-Text s setting j)) tt)
   level_operand (Operand-F.Query s es) = subst OfOperand (sym (views.rolls-Query s (map (λ e. e.0) es))) (λ j. subst IsTold (sym (operand-Query s (map (λ e. e.0) es) setting j)) (map_told _ (found_all setting j s (map (λ e. e.0) es)) (found_told es s j)))
-  level_operand (Operand-F.Length es) = subst OfOperand (sym (views.rolls-Length (map (λ e. e.0) es))) (λ j. subst IsTold (sym (operand-Length (map (λ e. e.0) es) setting j)) (map_told _ (valued_all setting j (map (λ e. e.0) es)) (values_told es j)))
+  level_operand (Operand-F.Length e) = subst OfOperand (sym (views.rolls-Length e.0)) (λ j. subst IsTold (sym (meaning-Length e.0 setting j)) (map_told length_of (operand_meaning e.0 setting j) (e.1 j)))
   level_operand (Operand-F.Count s es) = subst OfOperand (sym (views.rolls-Count s (map (λ e. e.0) es))) (λ j. subst IsTold (sym (operand-Count s (map (λ e. e.0) es) setting j)) (map_told _ (found_all setting j s (map (λ e. e.0) es)) (found_told es s j)))
   level_operand (Operand-F.Value s es) = subst OfOperand (sym (views.rolls-Value s (map (λ e. e.0) es))) (λ j. subst IsTold (sym (operand-Value s (map (λ e. e.0) es) setting j)) (map_told _ (found_all setting j s (map (λ e. e.0) es)) (found_told es s j)))
 
@@ -165,6 +161,6 @@ module _ (setting : Setting) (tells : TellsAll setting) where
   segments_told [] ns = tt
   segments_told (g ∷ gs) ns = then_told (run (map segment_meaning gs) setting) (segment_meaning g setting ns) (segment_told g ns) (segments_told gs)
 
-pub selected_is_told : (query : Query) (setting : Setting) → TellsAll setting → IsTold (selected query setting)
+pub selected_is_told : (vs : List Segment) (setting : Setting) → TellsAll setting → IsTold (selected vs setting)
 unfolding selected
-selected_is_told query setting tells = segments_told setting tells query.segments (([], setting.root) ∷ [])
+selected_is_told vs setting tells = segments_told setting tells vs (([], setting.root) ∷ [])

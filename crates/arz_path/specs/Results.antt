@@ -1,8 +1,9 @@
 -- What selecting answers.
-use Rattle.std.specs.Prelude.{◌≡◌, ◌≤◌, List, map, Bool, Result, Ok, Err}
+use Rattle.std.specs.Prelude.{◌≡◌, ◌≤◌, ℕ, List, map, Bool, Result, Ok, Err}
 use Rattle.arz_json.specs.declared.tree.Json.{Json}
 use Rattle.arz_rx.specs.Patterns.{PatternsView, Rose}
-use Rattle.arz_query.specs.declared.query.Query.{Query}
+use Rattle.arz_query.specs.Answers.{Spells}
+use Rattle.arz_query.specs.declared.query.Segment.{Segment}
 use Rattle.arz_path.specs.declared.place.Token.{Token}
 use Rattle.arz_path.specs.declared.place.Place.{Place}
 use Rattle.arz_path.specs.declared.place.SelectFault.{SelectFault}
@@ -39,10 +40,12 @@ places_seen found = map tokens_in found
 abbrev pub bit_seen : Bool → Bool
 bit_seen b = b
 
--- the places are those that are selected, in order
-abbrev pub Selects : Query → Json → Result (List Place) SelectFault → PatternsView → PatternsView → Type 0
-Selects q root result old new = Answers places_seen result (places q (setting_of old root)) old new
+-- the places are those that are selected, in order, by the segments that the text of a query spells
+abbrev pub Selects : List ℕ → Json → Result (List Place) SelectFault → PatternsView → PatternsView → Type 0
+Selects text root result old new =
+    (vs : List Segment) → Spells text vs → Answers places_seen result (places vs (setting_of old root)) old new
 
 -- the bit is whether any is selected
-abbrev pub SaysAny : Query → Json → Result Bool SelectFault → PatternsView → PatternsView → Type 0
-SaysAny q root result old new = Answers bit_seen result (is_any q (setting_of old root)) old new
+abbrev pub SaysAny : List ℕ → Json → Result Bool SelectFault → PatternsView → PatternsView → Type 0
+SaysAny text root result old new =
+    (vs : List Segment) → Spells text vs → Answers bit_seen result (is_any vs (setting_of old root)) old new

@@ -12,7 +12,6 @@ use Rattle.arz_query.specs.declared.query.Start.{Start}
 use Rattle.arz_query.specs.declared.query.Selector.{Selector}
 use Rattle.arz_query.specs.declared.query.Segment.{Segment}
 use Rattle.arz_query.specs.declared.query.Test.{Test}
-use Rattle.arz_query.specs.declared.query.Operand.{Operand}
 use Rattle.arz_path.specs.declared.place.Token.{Token}
 use Rattle.arz_path.specs.declared.place.Token.TheVariants.{Name, Index}
 use Rattle.arz_path.specs.declared.nodes.Step.{Step}
@@ -30,7 +29,7 @@ use Rattle.arz_path.specs.declared.nodes.Found.{Found}
 use Rattle.arz_path.specs.declared.values.Worth.{Worth}
 use Rattle.arz_path.specs.declared.values.Worth.TheVariants as worth
 use Rattle.std.specs.Option.{option_copied}
-use Rattle.arz_path.specs.Selected.{Setting, limited, kept, below_node, selector_meaning, segment_meaning, test_meaning, operand_meaning, run, inner, only, up_to, past, bound, is_taken}
+use Rattle.arz_path.specs.Selected.{Setting, limited, kept, below_node, selector_meaning, segment_meaning, test_meaning, run, inner, only, up_to, past, bound, is_taken}
 
 abbrev pub token_of : Step → Token
 token_of (step.Name s) = Name s.now
@@ -104,12 +103,9 @@ chosen setting ss n = each (picked setting n) ss
 unfoldable pub chosen_all : Setting → List Selector → List Node → Outcome (List Node)
 chosen_all setting ss ns = each (chosen setting ss) ns
 
--- what each test says, and each operand gives, at a current node
+-- what each test says at a current node
 unfoldable pub tested_all : Setting → Json → List Test → Outcome (List Bool)
 tested_all setting current ts = parts (λ t. test_meaning t setting current) ts
-
-unfoldable pub valued_all : Setting → Json → List Operand → Outcome (List (Option Json))
-valued_all setting current os = parts (λ o. operand_meaning o setting current) os
 
 -- segment after segment
 unfoldable pub run_all : Setting → List Segment → List Node → Outcome (List Node)
@@ -134,9 +130,6 @@ worth_seen (worth.Flag b) = Some (tree.Flag b)
 worth_seen (worth.Int z) = Some (tree.Int z)
 worth_seen (worth.Text t) = Some (tree.Text t.now)
 worth_seen (worth.Tree j) = Some j.now
-
-abbrev pub worths_seen : Vec Worth Global → List (Option Json)
-worths_seen v = map worth_seen v.items
 
 abbrev pub bits_seen : Vec Bool Global → List Bool
 bits_seen v = v.items

@@ -9,7 +9,6 @@ use Rattle.arz_json.specs.declared.tree.Json.{Json}
 use Rattle.arz_json.specs.declared.tree.Json.TheVariants.{Null as NullTree, Flag as FlagTree, Int as IntTree, Text as TextTree}
 use Rattle.arz_rx.specs.Patterns.{Told}
 use Rattle.arz_rx.specs.Mapping.{mapped}
-use Rattle.arz_query.specs.declared.query.Query.{Query}
 use Rattle.arz_query.specs.declared.query.Slice.{Slice}
 use Rattle.arz_query.specs.declared.query.Start.{Start}
 use Rattle.arz_query.specs.declared.query.Start.TheVariants.{Root, Current}
@@ -157,7 +156,7 @@ operand_step (Operand-F.Flag b) setting current = given (Some (FlagTree b))
 operand_step (Operand-F.Int z) setting current = given (Some (IntTree z))
 operand_step (Operand-F.Text s) setting current = given (Some (TextTree s))
 operand_step (Operand-F.Query start ss) setting current = outcome_map only (inner start ss setting current)
-operand_step (Operand-F.Length os) setting current = outcome_map length_of (parts (λ o. o setting current) os)
+operand_step (Operand-F.Length o) setting current = outcome_map length_of (o setting current)
 operand_step (Operand-F.Count start ss) setting current = outcome_map count_of (inner start ss setting current)
 operand_step (Operand-F.Value start ss) setting current = outcome_map only (inner start ss setting current)
 
@@ -169,7 +168,7 @@ pair_of a b setting current = and_then (λ x. outcome_map (λ y. (x, y)) (b sett
 abbrev pub test_step : Test-F OperandMeaning SegmentMeaning SelectorMeaning TestMeaning → TestMeaning
 test_step (Test-F.Any ts) setting current = outcome_map (list_any (λ b. b)) (parts (λ t. t setting current) ts)
 test_step (Test-F.All ts) setting current = outcome_map (list_all (λ b. b)) (parts (λ t. t setting current) ts)
-test_step (Test-F.Neither ts) setting current = outcome_map (λ bs. not (list_any (λ b. b) bs)) (parts (λ t. t setting current) ts)
+test_step (Test-F.Not t) setting current = outcome_map not (t setting current)
 test_step (Test-F.Exists start ss) setting current = outcome_map is_some_node (inner start ss setting current)
 test_step (Test-F.Compare a op b) setting current = outcome_map (λ p. compared op p.0 p.1) (pair_of a b setting current)
 test_step (Test-F.Match a b) setting current = and_then (λ p. searched_in setting.told true p.0 p.1) (pair_of a b setting current)
@@ -214,19 +213,19 @@ abbrev pub root_node : Setting → List Node
 root_node setting = ([], setting.root) ∷ []
 
 -- the nodes that it selects
-unfoldable pub selected : Query → Setting → Outcome (List Node)
-selected q setting = run (map segment_meaning q.segments) setting (root_node setting)
+unfoldable pub selected : List Segment → Setting → Outcome (List Node)
+selected vs setting = run (map segment_meaning vs) setting (root_node setting)
 
 abbrev pub place_of : Node → List Token
 place_of n = n.0
 
 -- their places
-unfoldable pub places : Query → Setting → Outcome (List (List Token))
-places q setting = outcome_map (map place_of) (selected q setting)
+unfoldable pub places : List Segment → Setting → Outcome (List (List Token))
+places vs setting = outcome_map (map place_of) (selected vs setting)
 
 -- whether there is one
-unfoldable pub is_any : Query → Setting → Outcome Bool
-is_any q setting = outcome_map is_some_node (selected q setting)
+unfoldable pub is_any : List Segment → Setting → Outcome Bool
+is_any vs setting = outcome_map is_some_node (selected vs setting)
 
 -- ---- where nothing is left open
 

@@ -85,7 +85,6 @@ length_in _ = None
 abbrev pub length_value : Json → Option Json
 length_value j = length_in (out-Json j)
 
--- of the only argument
-abbrev pub length_of : List (Option Json) → Option Json
-length_of (x ∷ []) = option_and_then length_value x
-length_of _ = None
+-- of an argument
+abbrev pub length_of : Option Json → Option Json
+length_of x = option_and_then length_value x

@@ -4,7 +4,7 @@ ghost use Rattle.std.specs.List.{list_any, list_all};
 ghost use Rattle.arz_path.specs.Outcome.{outcome_map};
 ghost use Rattle.arz_path.specs.Tree.{children};
 ghost use Rattle.arz_path.specs.Selected.{widest, segment_meaning, selector_meaning, test_meaning, operand_meaning};
-ghost use Rattle.arz_path.specs.Seen.{seen, grown, Finds, all_seen, branches_seen, bits_seen, worth_seen, worths_seen, found_seen, found_in, chosen, chosen_all, kept_all, found_all, tested_all, valued_all, run_all};
+ghost use Rattle.arz_path.specs.Seen.{seen, grown, Finds, all_seen, branches_seen, bits_seen, worth_seen, found_seen, found_in, chosen, chosen_all, kept_all, found_all, tested_all, run_all};
 ghost use Rattle.arz_path.specs.Results.{Asked, Answers, bit_seen, setting_of};
 
 use crate::SelectFault;
@@ -12,17 +12,18 @@ use crate::nodes::{Branch, Found, Held, Trail, descend_all, found_among, items_o
 use crate::pick::{children_of, item_named, named, slice_of};
 use crate::push::push_all;
 use crate::search::is_match;
-use crate::values::{Worth, compare, only_length, worth_of, worth_of_count};
-use arz_json::{Json, Many};
+use crate::values::{Worth, compare, length_of, worth_of, worth_of_count};
+use arz_json::Json;
 use arz_query::{Operand, Segment, Selector, Start, Test};
 use arz_rx::Patterns;
 use bumpalo::Bump;
+use sqlite_items::Items;
 use std::alloc::Global;
 
 /// The nodes after some segments.
 #[cycle(evaluate)]
 pub fn nodes_after<'t, 'a, P: Patterns>(
-    segments: &'a Many<Segment>,
+    segments: &'a Items<Segment>,
     alloc: Global,
     bump: &'t Bump,
     root: &'a Json,
@@ -69,7 +70,7 @@ fn after_segment<'t, 'a, P: Patterns>(
 
 #[cycle(evaluate)]
 fn choose_all<'t, 'a, P: Patterns>(
-    selectors: &'a Many<Selector>,
+    selectors: &'a Items<Selector>,
     alloc: Global,
     bump: &'t Bump,
     root: &'a Json,
@@ -89,7 +90,7 @@ fn choose_all<'t, 'a, P: Patterns>(
 
 #[cycle(evaluate)]
 fn choose_each<'t, 'a, P: Patterns>(
-    selectors: &'a Many<Selector>,
+    selectors: &'a Items<Selector>,
     alloc: Global,
     bump: &'t Bump,
     root: &'a Json,
@@ -180,9 +181,9 @@ fn holds<'a, P: Patterns>(
             let all = hold_each(tests, alloc, root, current, rx)?;
             Ok(all_of(all.as_slice()))
         }
-        Test::Neither(tests) => {
-            let all = hold_each(tests, alloc, root, current, rx)?;
-            Ok(!any_of(all.as_slice()))
+        Test::Not(test) => {
+            let bit = holds(test.get(), alloc, root, current, rx)?;
+            Ok(!bit)
         }
         Test::Exists(start, segments) => {
             let found = found_from(segments, *start, alloc, root, current, rx)?;
@@ -221,7 +222,7 @@ fn all_of(bits: &[bool]) -> bool
 /// What each expression says at a current node.
 #[cycle(evaluate)]
 fn hold_each<'a, P: Patterns>(
-    tests: &'a Many<Test>,
+    tests: &'a Items<Test>,
     alloc: Global,
     root: &'a Json,
     current: &'a Json,
@@ -258,14 +259,14 @@ fn value_of<'a, P: Patterns>(
         Operand::Null => Ok(Worth::Null),
         Operand::Flag(b) => Ok(Worth::Flag(*b)),
         Operand::Int(n) => Ok(Worth::Int(*n)),
-        Operand::Text(text) => Ok(Worth::Text(text)),
+        Operand::Text(text) => Ok(Worth::Text(text.as_str())),
         Operand::Query(start, segments) => {
             let found = found_from(segments, *start, alloc, root, current, rx)?;
             Ok(worth_of(found.only))
         }
-        Operand::Length(operands) => {
-            let worths = values_of(operands, alloc, root, current, rx)?;
-            Ok(only_length(worths.as_slice()))
+        Operand::Length(operand) => {
+            let worth = value_of(operand.get(), alloc, root, current, rx)?;
+            Ok(length_of(worth))
         }
         Operand::Count(start, segments) => {
             let found = found_from(segments, *start, alloc, root, current, rx)?;
@@ -278,32 +279,10 @@ fn value_of<'a, P: Patterns>(
     }
 }
 
-#[cycle(evaluate)]
-fn values_of<'a, P: Patterns>(
-    operands: &'a Many<Operand>,
-    alloc: Global,
-    root: &'a Json,
-    current: &'a Json,
-    rx: &mut P,
-) -> Result<Vec<Worth<'a>>, SelectFault>
-    ensures gives { Answers worths_seen result (valued_all (setting_of (P.patterns rx.old) root.now) current.now operands.now)
-        (P.patterns rx.old) (P.patterns rx.new) }
-    ensures asked { Asked (P.patterns rx.old) (P.patterns rx.new) }
-{
-    let mut all = Vec::new(alloc);
-    for operand in operands.as_slice() {
-        let worth = value_of(operand, alloc, root, current, rx)?;
-        let Ok(()) = all.push(worth) else {
-            return Err(SelectFault::Memory);
-        };
-    }
-    Ok(all)
-}
-
 /// What a query inside a filter finds.
 #[cycle(evaluate)]
 fn found_from<'a, P: Patterns>(
-    segments: &'a Many<Segment>,
+    segments: &'a Items<Segment>,
     start: Start,
     alloc: Global,
     root: &'a Json,

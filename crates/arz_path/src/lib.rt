@@ -10,10 +10,9 @@ mod place;
 mod push;
 mod search;
 mod selecting;
-#[cfg(test)]
-mod tests;
 mod values;
 
+pub use arz_query::{PathFault, Query};
 pub use finding::found;
 pub use place::{Place, SelectFault, Token};
 pub use selecting::{any, select};

@@ -17,12 +17,8 @@ pub fn children_of<'a>(alloc: Global, value: &'a Json) -> Result<Vec<Branch<'a>>
     ensures { Picks result (children value.now) }
 {
     let mut all = Vec::new(alloc);
-    let Ok(()) = add_items(items_of(value), &mut all) else {
-        return Err(SelectFault::Memory);
-    };
-    let Ok(()) = add_members(members_of(value), &mut all) else {
-        return Err(SelectFault::Memory);
-    };
+    add_items(items_of(value), &mut all)?;
+    add_members(members_of(value), &mut all)?;
     Ok(all)
 }
 
@@ -64,9 +60,7 @@ pub fn named<'a>(
         }
         let step = Step::Name(&member.name);
         let value = &member.value;
-        let Ok(()) = add(Branch { step, value }, &mut all) else {
-            return Err(SelectFault::Memory);
-        };
+        add(Branch { step, value }, &mut all)?;
     }
     Ok(all)
 }
@@ -107,9 +101,7 @@ pub fn item_named<'a>(
     let at = place_in(items.len(), i);
     if let Some(value) = item_at(items, at) {
         let step = Step::Index(at as u64);
-        let Ok(()) = add(Branch { step, value }, &mut all) else {
-            return Err(SelectFault::Memory);
-        };
+        add(Branch { step, value }, &mut all)?;
     }
     Ok(all)
 }
@@ -200,9 +192,7 @@ pub fn slice_of<'a>(
     if slice.step == 0 {
         return Ok(all);
     }
-    let Ok(()) = add_taken(slice, items, &mut all) else {
-        return Err(SelectFault::Memory);
-    };
+    add_taken(slice, items, &mut all)?;
     turn(slice.step, &mut all);
     Ok(all)
 }

@@ -1,5 +1,9 @@
 // Places in trees.
+ghost use Rattle.std.specs.Prelude.{◌≡◌};
+ghost use Rattle.arz_path.specs.declared.place.SelectFault.TheVariants.{Memory};
+
 use arz_json::{Many, Text};
+use std::alloc::AllocError;
 use thiserror::Error;
 
 /// A step from a list or an object to what stands in it (RFC 9535, section 2.7).
@@ -29,4 +33,12 @@ pub enum SelectFault {
     /// There was not enough memory.
     #[error("out of memory")]
     Memory,
+}
+
+impl From<AllocError> for SelectFault {
+    ghost from_gives = { λ _ e. e ≡ Memory };
+
+    fn from(_: AllocError) -> SelectFault {
+        SelectFault::Memory
+    }
 }

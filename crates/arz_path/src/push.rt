@@ -26,9 +26,7 @@ fn push_child<'t, 'a>(
     if out.len() >= WIDEST {
         return Err(SelectFault::TooWide);
     }
-    let Ok(trail) = further(bump, node.trail, child.step) else {
-        return Err(SelectFault::Memory);
-    };
+    let trail = further(bump, node.trail, child.step)?;
     let value = child.value;
     match out.push(Held { trail, value }) {
         Ok(()) => Ok(()),

@@ -40,8 +40,6 @@ pub fn is_match<P: Patterns>(
     let Some(pattern) = text_of(pattern) else {
         return Ok(false);
     };
-    let Ok(pattern) = i_regexp(alloc, pattern.as_str(), whole) else {
-        return Err(SelectFault::Memory);
-    };
-    ask(pattern.as_str(), text.as_str(), rx)
+    let pattern = i_regexp(alloc, pattern, whole)?;
+    ask(pattern.as_str(), text, rx)
 }

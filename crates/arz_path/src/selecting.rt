@@ -33,7 +33,7 @@ pub fn select<P: Patterns>(
         trail: &trail,
         value: root,
     };
-    let nodes = nodes_after(&query.segments, alloc, &bump, root, origin, rx)?;
+    let nodes = nodes_after(query.segments(), alloc, &bump, root, origin, rx)?;
     match places_of(alloc, nodes.as_slice()) {
         Ok(places) => Ok(places),
         Err(_) => Err(SelectFault::Memory),
@@ -56,7 +56,7 @@ pub fn any<P: Patterns>(
         trail: &trail,
         value: root,
     };
-    let nodes = nodes_after(&query.segments, alloc, &bump, root, origin, rx)?;
+    let nodes = nodes_after(query.segments(), alloc, &bump, root, origin, rx)?;
     Ok(has_any(nodes.as_slice()))
 }
 

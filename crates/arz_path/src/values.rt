@@ -1,12 +1,12 @@
 // Values in filters.
-ghost use Rattle.std.specs.Prelude.{◌≡◌, Some, map, pos, option_and_then};
+ghost use Rattle.std.specs.Prelude.{◌≡◌, Some, pos, option_and_then};
 ghost use Rattle.std.specs.Option.{option_copied};
 ghost use Rattle.arz_json.specs.declared.tree.Json.TheVariants.{Int};
 ghost use Rattle.arz_json.specs.Look.{int_in, text_in};
-ghost use Rattle.arz_path.specs.Values.{is_same, equals, less, compared, length_of, length_value, count_characters, int_less, text_less};
+ghost use Rattle.arz_path.specs.Values.{is_same, equals, less, compared, length_of as length_in_filter, length_value, count_characters, int_less, text_less};
 ghost use Rattle.arz_path.specs.Seen.{worth_seen};
 
-use arz_json::{Json, Text, same};
+use arz_json::{Json, same};
 use arz_query::Comparison;
 
 /// A value of a filter, or nothing.
@@ -16,7 +16,7 @@ pub enum Worth<'a> {
     Null,
     Flag(bool),
     Int(i128),
-    Text(&'a Text),
+    Text(&'a str),
     Tree(&'a Json),
 }
 
@@ -53,7 +53,7 @@ fn is_worth(tree: &Json, worth: Worth) -> bool
         (Json::Null, Worth::Null) => true,
         (Json::Flag(a), Worth::Flag(b)) => *a == b,
         (Json::Int(a), Worth::Int(b)) => *a == b,
-        (Json::Text(a), Worth::Text(b)) => a.as_str() == b.as_str(),
+        (Json::Text(a), Worth::Text(b)) => a.as_str() == b,
         _ => false,
     }
 }
@@ -67,7 +67,7 @@ fn is_tree(worth: Worth, tree: &Json) -> bool
         (Worth::Null, Json::Null) => true,
         (Worth::Flag(a), Json::Flag(b)) => a == *b,
         (Worth::Int(a), Json::Int(b)) => a == *b,
-        (Worth::Text(a), Json::Text(b)) => a.as_str() == b.as_str(),
+        (Worth::Text(a), Json::Text(b)) => a == b.as_str(),
         _ => false,
     }
 }
@@ -82,7 +82,7 @@ fn is_equal(left: Worth, right: Worth) -> bool
         (Worth::Nothing, Worth::Nothing) | (Worth::Null, Worth::Null) => true,
         (Worth::Flag(a), Worth::Flag(b)) => a == b,
         (Worth::Int(a), Worth::Int(b)) => a == b,
-        (Worth::Text(a), Worth::Text(b)) => a.as_str() == b.as_str(),
+        (Worth::Text(a), Worth::Text(b)) => a == b,
         _ => false,
     }
 }
@@ -97,17 +97,17 @@ fn int_of(worth: Worth) -> Option<i128>
     }
 }
 
-fn tree_text(tree: &Json) -> Option<&Text>
+fn tree_text(tree: &Json) -> Option<&str>
     ensures { option_copied result ≡ text_in tree.now }
 {
     match tree {
-        Json::Text(text) => Some(text),
+        Json::Text(text) => Some(text.as_str()),
         _ => None,
     }
 }
 
 /// The text, where the value is one.
-pub fn text_of<'a>(worth: Worth<'a>) -> Option<&'a Text>
+pub fn text_of<'a>(worth: Worth<'a>) -> Option<&'a str>
     ensures { option_copied result ≡ option_and_then text_in (worth_seen worth.entry) }
 {
     match worth {
@@ -126,11 +126,11 @@ fn is_less_int(left: Option<i128>, right: Option<i128>) -> bool
     }
 }
 
-fn is_less_text(left: Option<&Text>, right: Option<&Text>) -> bool
+fn is_less_text(left: Option<&str>, right: Option<&str>) -> bool
     ensures { result ≡ text_less (option_copied left.entry) (option_copied right.entry) }
 {
     match (left, right) {
-        (Some(a), Some(b)) => a.as_str() < b.as_str(),
+        (Some(a), Some(b)) => a < b,
         _ => false,
     }
 }
@@ -156,39 +156,30 @@ pub fn compare(left: Worth, comparison: Comparison, right: Worth) -> bool
     }
 }
 
-fn characters_in(text: &Text) -> usize
+fn characters_in(text: &str) -> usize
     ensures { result ≡ count_characters text.now }
 {
-    text.as_str().chars().count()
+    text.chars().count()
 }
 
 fn tree_length(tree: &Json) -> Worth<'_>
     ensures { worth_seen result ≡ length_value tree.now }
 {
     match tree {
-        Json::Text(text) => Worth::Int(characters_in(text) as i128),
+        Json::Text(text) => Worth::Int(characters_in(text.as_str()) as i128),
         Json::List(items) => Worth::Int(items.len() as i128),
         Json::Object(members) => Worth::Int(members.len() as i128),
         _ => Worth::Nothing,
     }
 }
 
-fn worth_length<'a>(worth: Worth<'a>) -> Worth<'a>
-    ensures { worth_seen result ≡ option_and_then length_value (worth_seen worth.entry) }
+/// The length of a value (RFC 9535, section 2.4.4).
+pub fn length_of<'a>(worth: Worth<'a>) -> Worth<'a>
+    ensures { worth_seen result ≡ length_in_filter (worth_seen worth.entry) }
 {
     match worth {
         Worth::Text(text) => Worth::Int(characters_in(text) as i128),
         Worth::Tree(tree) => tree_length(tree),
         _ => Worth::Nothing,
     }
-}
-
-/// The length of the only value (RFC 9535, section 2.4.4).
-pub fn only_length<'a>(worths: &[Worth<'a>]) -> Worth<'a>
-    ensures { worth_seen result ≡ length_of (map worth_seen worths.now) }
-{
-    if worths.len() != 1 {
-        return Worth::Nothing;
-    }
-    worth_length(worths[0])
 }

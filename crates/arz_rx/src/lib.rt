@@ -5,8 +5,6 @@
 mod mapping;
 mod patterns;
 mod table;
-#[cfg(test)]
-mod tests;
 
 pub use mapping::i_regexp;
 pub use patterns::{Patterns, SearchFault};

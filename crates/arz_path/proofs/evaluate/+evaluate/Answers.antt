@@ -7,20 +7,19 @@ use Rattle.arz_json.specs.declared.tree.Json.TheVariants.{Int}
 use Rattle.arz_query.specs.declared.query.Segment.{Segment}
 use Rattle.arz_query.specs.declared.query.Selector.{Selector}
 use Rattle.arz_query.specs.declared.query.Test.{Test}
-use Rattle.arz_query.specs.declared.query.Operand.{Operand}
 use Rattle.arz_path.specs.declared.nodes.Held.{Held}
 use Rattle.arz_path.specs.declared.nodes.Branch.{Branch}
 use Rattle.arz_path.specs.Outcome.{given, outcome_map, Covers}
 use Rattle.arz_path.specs.Tree.{preorder}
 use Rattle.arz_path.specs.Values.{compared, length_of}
 use Rattle.arz_path.specs.Selected.{started, is_some_node, only, count_of, searched_in, segment_meaning, selector_meaning, test_meaning, operand_meaning}
-use Rattle.arz_path.specs.Seen.{seen, branch_of, worth_seen, grown, joined, all_seen, branches_seen, bits_seen, worths_seen, found_seen, found_in, chosen, chosen_all, kept_all, found_all, tested_all, valued_all, run_all}
+use Rattle.arz_path.specs.Seen.{seen, branch_of, worth_seen, grown, joined, all_seen, branches_seen, bits_seen, found_seen, found_in, chosen, chosen_all, kept_all, found_all, tested_all, run_all}
 use Rattle.arz_path.specs.Results.{Fails, bit_seen, setting_of}
 use Rattle.arz_path.proofs.Outcomes.{through_map}
 use Rattle.arz_path.proofs.Faults.{asked_then, same_setting, fails_from, fails_map, fails_grows, exit, exit_finds, answers_picked, answers_later, pair_given}
-use Rattle.arz_path.proofs.Parts.{segment-Child, segment-Descendant, selector-Name, selector-Filter, test-Any, test-All, test-Neither, test-Exists, operand-Length, operand-Query, operand-Value, operand-Count, found-run, of_found, some_found}
-use Rattle.arz_path.proofs.Meanings.{meaning-Compare, meaning-Match, meaning-Search}
-use Rattle.arz_path.proofs.Steps.{kept_skip, kept_take, kept_fault, tested_step, tested_fault, valued_step, valued_fault, run_step, run_fault, chosen_step, chosen_wide, chosen_fault, nodes_step, nodes_fault, kept_end, tested_end, valued_end, run_end, chosen_end, nodes_end}
+use Rattle.arz_path.proofs.Parts.{segment-Child, segment-Descendant, selector-Name, selector-Filter, test-Any, test-All, test-Exists, operand-Query, operand-Value, operand-Count, found-run, of_found, some_found}
+use Rattle.arz_path.proofs.Meanings.{meaning-Not, meaning-Length, meaning-Compare, meaning-Match, meaning-Search}
+use Rattle.arz_path.proofs.Steps.{kept_skip, kept_take, kept_fault, tested_step, tested_fault, run_step, run_fault, chosen_step, chosen_wide, chosen_fault, nodes_step, nodes_fault, kept_end, tested_end, run_end, chosen_end, nodes_end}
 use Rattle.arz_path.proofs.evaluate.+evaluate.Goals as goal
 use Rattle.arz_path.proofs.evaluate.+evaluate.Goals.{found_from-in-Root, found_from-in-Current}
 
@@ -139,31 +138,6 @@ hold_each-returns-clause-gives g t c =
     let none : drop l.test-index c.as_slice-test-items.result.now ≡ [] = grind (arith, common_steps) in
     rw (← whole) (tested_end (setting_of (g.P.Patterns.patterns c.args.rx.now) c.args.root.now) c.args.current.now _ _ (subst (λ r. Covers (tested_all (setting_of (g.P.Patterns.patterns c.args.rx.now) c.args.root.now) c.args.current.now c.as_slice-test-items.result.now) (joined l.all.items (tested_all (setting_of (g.P.Patterns.patterns c.args.rx.now) c.args.root.now) c.args.current.now r))) none l.invariant.0))
 
-pub values_of-returns-in_err-worth-clause-gives : goal.values_of-returns-in_err-worth-clause-gives
-values_of-returns-in_err-worth-clause-gives g t c =
-    let l = c.loop-operand in
-    let whole : c.as_slice-operand-items.result.now ≡ c.args.operands.now = c.as_slice-operand-items.ensures in
-    let x : Operand = c.operand-item.result in
-    let cut : drop l.operand-index c.as_slice-operand-items.result.now ≡ x ∷ drop (l.operand-index + 1) c.as_slice-operand-items.result.now = grind (arith, common_steps) in
-    exit worths_seen c.from_residual.result c.in_err-worth.field-0.0 _ _ _ c.from_residual.ensures.1
-    (rw (← whole) (fails_from _ _ _ _ _ _ l.invariant.1 (valued_fault (setting_of (g.P.Patterns.patterns c.args.rx.now) c.args.root.now) (setting_of (g.P.Patterns.patterns c.loop-operand.rx) c.args.root.now) (same_setting (g.P.Patterns.patterns c.args.rx.now) (g.P.Patterns.patterns c.loop-operand.rx) c.args.root.now c.loop-operand.invariant.1) c.args.current.now (valued_all (setting_of (g.P.Patterns.patterns c.args.rx.now) c.args.root.now) c.args.current.now c.as_slice-operand-items.result.now) l.all.items l.all.items x _ _ cut l.invariant.0) c.in_err-worth.ensures.gives))
-
-pub values_of-loop-operand-preserved : goal.values_of-loop-operand-preserved
-values_of-loop-operand-preserved g t c =
-    let l = c.loop-operand in
-    let x : Operand = c.operand-item.result in
-    let cut : drop l.operand-index c.as_slice-operand-items.result.now ≡ x ∷ drop (l.operand-index + 1) c.as_slice-operand-items.result.now = grind (arith, common_steps) in (
-      valued_step (setting_of (g.P.Patterns.patterns c.args.rx.now) c.args.root.now) (setting_of (g.P.Patterns.patterns c.loop-operand.rx) c.args.root.now) (same_setting (g.P.Patterns.patterns c.args.rx.now) (g.P.Patterns.patterns c.loop-operand.rx) c.args.root.now c.loop-operand.invariant.1) c.args.current.now (valued_all (setting_of (g.P.Patterns.patterns c.args.rx.now) c.args.root.now) c.args.current.now c.as_slice-operand-items.result.now) l.all.items c.push.new.self.items x _ _ cut l.invariant.0 c.in_ok-worth.worth c.in-Ok.ensures.items c.in_ok-worth.ensures.gives,
-      asked_then _ _ _ l.invariant.1 c.in_ok-worth.ensures.asked,
-    )
-
-pub values_of-returns-clause-gives : goal.values_of-returns-clause-gives
-values_of-returns-clause-gives g t c =
-    let l = c.loop-operand in
-    let whole : c.as_slice-operand-items.result.now ≡ c.args.operands.now = c.as_slice-operand-items.ensures in
-    let none : drop l.operand-index c.as_slice-operand-items.result.now ≡ [] = grind (arith, common_steps) in
-    rw (← whole) (valued_end (setting_of (g.P.Patterns.patterns c.args.rx.now) c.args.root.now) c.args.current.now _ _ (subst (λ r. Covers (valued_all (setting_of (g.P.Patterns.patterns c.args.rx.now) c.args.root.now) c.args.current.now c.as_slice-operand-items.result.now) (joined (map worth_seen l.all.items) (valued_all (setting_of (g.P.Patterns.patterns c.args.rx.now) c.args.root.now) c.args.current.now r))) none l.invariant.0))
-
 pub holds-returns-in_err-all-in-Any-clause-gives : goal.holds-returns-in_err-all-in-Any-clause-gives
 holds-returns-in_err-all-in-Any-clause-gives g t c =
     let is = ap (λ t. test_meaning t (setting_of (g.P.Patterns.patterns c.args.rx.now) c.args.root.now) c.args.current.now) c.in-Any.is ∙ test-Any c.in-Any.tests (setting_of (g.P.Patterns.patterns c.args.rx.now) c.args.root.now) c.args.current.now in
@@ -188,17 +162,18 @@ holds-returns-in_ok-all-in-All-clause-gives g t c =
     let bit : c.all_of.result ≡ (list_all (λ b. b)) c.in_ok-all-in-All.all.items = grind (arith, common_steps) in
     rw (is, bit) (through_map (list_all (λ b. b)) _ _ c.in_ok-all-in-All.ensures.gives)
 
-pub holds-returns-in_err-all-in-Neither-clause-gives : goal.holds-returns-in_err-all-in-Neither-clause-gives
-holds-returns-in_err-all-in-Neither-clause-gives g t c =
-    let is = ap (λ t. test_meaning t (setting_of (g.P.Patterns.patterns c.args.rx.now) c.args.root.now) c.args.current.now) c.in-Neither.is ∙ test-Neither c.in-Neither.tests (setting_of (g.P.Patterns.patterns c.args.rx.now) c.args.root.now) c.args.current.now in
-    exit bit_seen c.from_residual-in_err-all-in-Neither.result c.in_err-all-in-Neither.field-0.0 _ _ _ c.from_residual-in_err-all-in-Neither.ensures.1
-    (fails_map _ (λ (bs : List Bool). not (list_any (λ b. b) bs)) _ _ _ _ is c.in_err-all-in-Neither.ensures.gives)
+pub holds-returns-in_err-bit-in-Not-clause-gives : goal.holds-returns-in_err-bit-in-Not-clause-gives
+holds-returns-in_err-bit-in-Not-clause-gives g t c =
+    let is = ap (λ t. test_meaning t (setting_of (g.P.Patterns.patterns c.args.rx.now) c.args.root.now) c.args.current.now) c.in-Not.is ∙ meaning-Not c.in-Not.test (setting_of (g.P.Patterns.patterns c.args.rx.now) c.args.root.now) c.args.current.now
+    ∙ ap (λ t. outcome_map not (test_meaning t (setting_of (g.P.Patterns.patterns c.args.rx.now) c.args.root.now) c.args.current.now)) (sym c.get.ensures) in
+    exit bit_seen c.from_residual-in_err-bit-in-Not.result c.in_err-bit-in-Not.field-0.0 _ _ _ c.from_residual-in_err-bit-in-Not.ensures.1
+    (fails_map _ not _ _ _ _ is c.in_err-bit-in-Not.ensures.gives)
 
-pub holds-returns-in_ok-all-in-Neither-clause-gives : goal.holds-returns-in_ok-all-in-Neither-clause-gives
-holds-returns-in_ok-all-in-Neither-clause-gives g t c =
-    let is = ap (λ t. test_meaning t (setting_of (g.P.Patterns.patterns c.args.rx.now) c.args.root.now) c.args.current.now) c.in-Neither.is ∙ test-Neither c.in-Neither.tests (setting_of (g.P.Patterns.patterns c.args.rx.now) c.args.root.now) c.args.current.now in
-    let bit : not c.any_of-in-Neither.result ≡ (λ (bs : List Bool). not (list_any (λ b. b) bs)) c.in_ok-all-in-Neither.all.items = grind (arith, common_steps) in
-    rw (is, bit) (through_map (λ (bs : List Bool). not (list_any (λ b. b) bs)) _ _ c.in_ok-all-in-Neither.ensures.gives)
+pub holds-returns-in_ok-bit-in-Not-clause-gives : goal.holds-returns-in_ok-bit-in-Not-clause-gives
+holds-returns-in_ok-bit-in-Not-clause-gives g t c =
+    let is = ap (λ t. test_meaning t (setting_of (g.P.Patterns.patterns c.args.rx.now) c.args.root.now) c.args.current.now) c.in-Not.is ∙ meaning-Not c.in-Not.test (setting_of (g.P.Patterns.patterns c.args.rx.now) c.args.root.now) c.args.current.now
+    ∙ ap (λ t. outcome_map not (test_meaning t (setting_of (g.P.Patterns.patterns c.args.rx.now) c.args.root.now) c.args.current.now)) (sym c.get.ensures) in
+    rw is (through_map not _ _ c.in_ok-bit-in-Not.ensures.gives)
 
 pub holds-returns-in_err-found-in-Exists-clause-gives : goal.holds-returns-in_err-found-in-Exists-clause-gives
 holds-returns-in_err-found-in-Exists-clause-gives g t c =
@@ -340,14 +315,16 @@ value_of-returns-in_ok-found-in-Value-clause-gives g t c =
     let value : worth_seen c.worth_of-in-Value.result ≡ option_copied c.in_ok-found-in-Value.found.only = grind (arith, common_steps) in
     rw (is, value) (through_map (λ (p : ℕ × Option Json). p.1) _ _ c.in_ok-found-in-Value.ensures.gives)
 
-pub value_of-returns-in_err-worths-in-Length-clause-gives : goal.value_of-returns-in_err-worths-in-Length-clause-gives
-value_of-returns-in_err-worths-in-Length-clause-gives g t c =
-    let is = ap (λ o. operand_meaning o (setting_of (g.P.Patterns.patterns c.args.rx.now) c.args.root.now) c.args.current.now) c.in-Length.is ∙ operand-Length c.in-Length.operands (setting_of (g.P.Patterns.patterns c.args.rx.now) c.args.root.now) c.args.current.now in
-    exit worth_seen c.from_residual-in_err-worths-in-Length.result c.in_err-worths-in-Length.field-0.0 _ _ _ c.from_residual-in_err-worths-in-Length.ensures.1
-    (fails_map _ length_of _ _ _ _ is c.in_err-worths-in-Length.ensures.gives)
+pub value_of-returns-in_err-worth-in-Length-clause-gives : goal.value_of-returns-in_err-worth-in-Length-clause-gives
+value_of-returns-in_err-worth-in-Length-clause-gives g t c =
+    let is = ap (λ o. operand_meaning o (setting_of (g.P.Patterns.patterns c.args.rx.now) c.args.root.now) c.args.current.now) c.in-Length.is ∙ meaning-Length c.in-Length.operand (setting_of (g.P.Patterns.patterns c.args.rx.now) c.args.root.now) c.args.current.now
+    ∙ ap (λ o. outcome_map length_of (operand_meaning o (setting_of (g.P.Patterns.patterns c.args.rx.now) c.args.root.now) c.args.current.now)) (sym c.get.ensures) in
+    exit worth_seen c.from_residual-in_err-worth-in-Length.result c.in_err-worth-in-Length.field-0.0 _ _ _ c.from_residual-in_err-worth-in-Length.ensures.1
+    (fails_map _ length_of _ _ _ _ is c.in_err-worth-in-Length.ensures.gives)
 
-pub value_of-returns-in_ok-worths-in-Length-clause-gives : goal.value_of-returns-in_ok-worths-in-Length-clause-gives
-value_of-returns-in_ok-worths-in-Length-clause-gives g t c =
-    let is = ap (λ o. operand_meaning o (setting_of (g.P.Patterns.patterns c.args.rx.now) c.args.root.now) c.args.current.now) c.in-Length.is ∙ operand-Length c.in-Length.operands (setting_of (g.P.Patterns.patterns c.args.rx.now) c.args.root.now) c.args.current.now in
-    let value : worth_seen c.only_length.result ≡ length_of (map worth_seen c.in_ok-worths-in-Length.worths.items) = grind (arith, common_steps) in
-    rw (is, value) (through_map length_of _ _ c.in_ok-worths-in-Length.ensures.gives)
+pub value_of-returns-in_ok-worth-in-Length-clause-gives : goal.value_of-returns-in_ok-worth-in-Length-clause-gives
+value_of-returns-in_ok-worth-in-Length-clause-gives g t c =
+    let is = ap (λ o. operand_meaning o (setting_of (g.P.Patterns.patterns c.args.rx.now) c.args.root.now) c.args.current.now) c.in-Length.is ∙ meaning-Length c.in-Length.operand (setting_of (g.P.Patterns.patterns c.args.rx.now) c.args.root.now) c.args.current.now
+    ∙ ap (λ o. outcome_map length_of (operand_meaning o (setting_of (g.P.Patterns.patterns c.args.rx.now) c.args.root.now) c.args.current.now)) (sym c.get.ensures) in
+    let value : worth_seen c.length_of.result ≡ length_of (worth_seen c.in_ok-worth-in-Length.worth) = grind (arith, common_steps) in
+    rw (is, value) (through_map length_of _ _ c.in_ok-worth-in-Length.ensures.gives)

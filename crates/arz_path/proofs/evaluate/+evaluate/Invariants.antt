@@ -2,7 +2,7 @@ use Rattle.std.proofs.Common.{◌≡◌, ◌≤◌, ◌∷◌, [], drop, map, le
 use Rattle.arz_path.specs.Outcome.{Covers}
 use Rattle.arz_path.specs.Tree.{children}
 use Rattle.arz_path.specs.Selected.{widest}
-use Rattle.arz_path.specs.Seen.{seen, branch_of, worth_seen, joined, grown, run_all, chosen, chosen_all, kept_all, tested_all, valued_all}
+use Rattle.arz_path.specs.Seen.{seen, branch_of, joined, grown, run_all, chosen, chosen_all, kept_all, tested_all}
 use Rattle.arz_path.specs.Results.{Asked, setting_of}
 use Rattle.arz_path.proofs.evaluate.+evaluate.Given as goal
 
@@ -39,10 +39,4 @@ abbrev pub invariant-hold_each-loop-test : goal.invariant-hold_each-loop-test
 invariant-hold_each-loop-test g l =
     let setting = setting_of (g.P.Patterns.patterns l.fn.rx) l.root in
     Covers (tested_all setting l.current l.test-items) (joined l.all.items (tested_all setting l.current (drop l.test-index l.test-items)))
-    × Asked (g.P.Patterns.patterns l.fn.rx) (g.P.Patterns.patterns l.rx)
-
-abbrev pub invariant-values_of-loop-operand : goal.invariant-values_of-loop-operand
-invariant-values_of-loop-operand g l =
-    let setting = setting_of (g.P.Patterns.patterns l.fn.rx) l.root in
-    Covers (valued_all setting l.current l.operand-items) (joined (map worth_seen l.all.items) (valued_all setting l.current (drop l.operand-index l.operand-items)))
     × Asked (g.P.Patterns.patterns l.fn.rx) (g.P.Patterns.patterns l.rx)
