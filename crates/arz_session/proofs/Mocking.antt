@@ -18,7 +18,7 @@ use Rattle.arz_flow.proofs.Executions.{one_more, no_asks}
 use Rattle.arz_session.specs.declared.session.Line.{Line}
 use Rattle.arz_session.specs.declared.session.Session.{Session}
 use Rattle.arz_machine.specs.At.{Standing, At}
-use Rattle.arz_machine.specs.Rests.{lacks_answer, takes}
+use Rattle.arz_machine.specs.Rests.{lacks_answer}
 use Rattle.arz_session.specs.Mock.{line_of, lines_from, lines_of, answers, IsMock}
 use Rattle.arz_session.specs.declared.session.How.TheVariants.{Mock}
 use Rattle.arz_machine.proofs.MachineAt.{at_fits}
@@ -97,10 +97,6 @@ lacks_none e q settled is = true_isnt_false (ap lacks_answer (sym is) ∙ settle
     true_isnt_false : true ≡ false → ⊥
     true_isnt_false x = absurd cc
 
--- where a request lacks its reply, a reply is taken
-pub takes_next : (b : Bundle) (r : List Answer) (q : Request) (y : Reply) → end b r ≡ Some (Out (Send q)) → takes (end b r) (Replied y) ≡ true
-takes_next b r q y e = ap (λ x. takes x (Replied y)) e
-
 -- a machine that was told these replies, each with its line
 pub record IsTold (b : Bundle) (m : Standing) (used : List Reply) (lines : List Line) : Type 0 where
   pub at : At m b (answers used)
@@ -117,13 +113,13 @@ told_nothing b m lines at none = record {
 -- one more reply was told
 pub told_more : (b : Bundle) (m m' : Standing) (used : List Reply) (lines lines' : List Line) (q : Request) (y : Reply) (n : ℕ) (told : List ℕ)
     → IsTold b m used lines → n ≡ m.step + 1 → end b (answers used) ≡ Some (Out (Send q)) → told ≡ ask_text (Send q)
-    → (takes (end b (answers used)) (Replied y) ≡ true → At m' b (answers used ++ Replied y ∷ []))
+    → At m' b (answers used ++ Replied y ∷ [])
     → lines' ≡ lines ++ line_with n told y ∷ [] → IsTold b m' (used ++ y ∷ []) lines'
 told_more b m m' used lines lines' q y n told i number lacks text taken pushed =
     let asked = asks_more m b used q y i.at lacks in
     let count : length used ≡ m.step = omega (arith, i.at.count, length-map used Replied) in
     record {
-      at = at_more m' b used y (taken (takes_next b (answers used) q y lacks));
+      at = at_more m' b used y taken;
       told = lines_next (asks b (answers used)) _ used (Send q) y (length used) lines lines' (line_with n told y) i.asked refl asked i.told
           (line_here n told q y text ∙ ap (λ k. line_of k (Send q) y) (omega (arith, number, count))) pushed;
       asked = ap length asked ∙ lengths_more (asks b (answers used)) used (Send q) y i.asked;

@@ -2,15 +2,14 @@
 ghost use Rattle.std.specs.Prelude.{◌≡◌, ◌++◌, ◌∷◌, [], List, true, IfOk, OnOk};
 ghost use Rattle.arz_flow.specs.declared.answers.Answer.{Answer};
 ghost use Rattle.arz_flow.specs.declared.bundle.Bundle.{Bundle};
-ghost use Rattle.arz_flow.specs.Executions.{end as end_over};
 ghost use Rattle.arz_flow.specs.Valid.{IsValid};
 ghost use Rattle.arz_machine.specs.At.{standing, At};
-ghost use Rattle.arz_machine.specs.Rests.{takes};
+ghost use Rattle.arz_machine.specs.States.{is_sending};
 ghost use Rattle.arz_session.specs.Mock.{IsMock};
 ghost use Rattle.arz_session.specs.Played.{IsPlayed};
 
 use crate::session::{How, Line, Session};
-use arz_flow::{Answer, Bundle, send_text};
+use arz_flow::{Bundle, send_text};
 use arz_json::Many;
 use arz_machine::{Machine, MachineFault, Next};
 use arz_world::Reply;
@@ -44,7 +43,7 @@ fn play(
             Next::Send(request) => send_text(alloc, request)?,
         };
         let status = Some(reply.status);
-        tell(machine, reply)?;
+        tell(machine, &reply)?;
         lines.push(Line {
             n,
             ask,
@@ -56,13 +55,14 @@ fn play(
 }
 
 // Tells a machine the reply to the request that it asks for.
-fn tell(machine: &mut Machine, reply: Reply) -> Result<(), AllocError>
+fn tell(machine: &mut Machine, reply: &Reply) -> Result<(), AllocError>
+    requires { is_sending (standing machine.old).rest ≡ true }
     ensures { OnOk result ((b : Bundle) (r : List Answer) → At (standing machine.old) b r
-        → takes (end_over b r) (Answer.Reply reply) ≡ true → At (standing machine.new) b (r ++ Answer.Reply reply ∷ [])) }
+        → At (standing machine.new) b (r ++ Answer.Reply reply.now ∷ [])) }
 {
-    match machine.answer(Answer::Reply(reply)) {
-        // A reply that is asked for is never of the wrong kind.
-        Ok(()) | Err(MachineFault::WrongKind) => Ok(()),
+    match machine.tell(reply) {
+        Ok(()) => Ok(()),
+        Err(MachineFault::WrongKind) => unreachable!(),
         Err(MachineFault::Memory) => Err(AllocError),
     }
 }

@@ -5,6 +5,7 @@ use Rattle.std.proofs.lemmas.Iterator.Consumers.{YieldsList-turn, YieldsList-end
 use Rattle.arz_flow.specs.declared.answers.Ask.TheVariants.{Send}
 use Rattle.arz_flow.specs.Executions.{asks, end}
 use Rattle.arz_machine.specs.At.{standing}
+use Rattle.arz_machine.specs.States.{is_sending}
 use Rattle.arz_session.specs.Mock.{answers, lines_of}
 use Rattle.arz_session.proofs.Mocking.{told_nothing, told_more, used_front, same_end, lacks_none}
 use Rattle.arz_session.proofs.over_replies.play.Goals as goal
@@ -13,11 +14,14 @@ use Rattle.arz_session.proofs.over_replies.play.Goals.{in-None, in-Some+in-Ended
 pub loop-reply-init : goal.loop-reply-init
 loop-reply-init c = λ b at. told_nothing b _ _ at c.new-lines.ensures.items
 
+pub tell-requires : goal.tell-requires
+tell-requires c = ap is_sending (sym c.in-Send.ensures.rest)
+
 pub loop-reply-preserved : goal.loop-reply-preserved
 loop-reply-preserved c = λ b at.
     let i = c.loop-reply.invariant b at in
     told_more b (standing c.loop-reply.machine) _ c.loop-reply.yielded _ _ c.in-Send.request.now c.in-Some.reply c.number-n.result c.in_ok-ask-in-Send.ask i c.number-n.ensures
-    (c.in-Send.ensures b (answers c.loop-reply.yielded) i.at) c.in_ok-ask-in-Send.ensures
+    (c.in-Send.ensures.tells b (answers c.loop-reply.yielded) i.at) c.in_ok-ask-in-Send.ensures
     (c.in_ok-tell.ensures b (answers c.loop-reply.yielded) i.at) c.in_ok-push.ensures.items
 
 pub returns : goal.returns
@@ -41,7 +45,7 @@ returns c = λ b at.
             all = λ q e. drop_all (length used) c.args.replies (omega (arith, ended.1));
           }
       | in-Some+in-Ended w ↦
-          let over = w.in-Ended.ensures b (answers used) i.at in
+          let over = w.in-Ended.ensures.tells b (answers used) i.at in
           record {
             used = used;
             left = drop (length used) c.args.replies;
