@@ -7,7 +7,7 @@ use Rattle.arz_rx.specs.Mapping.{mapped}
 use Rattle.arz_query.specs.Answers.{Spells, Faults}
 use Rattle.arz_query.specs.declared.fault.PathFault.{PathFault}
 use Rattle.arz_query.specs.declared.fault.PathFault.TheVariants.{Syntax, IllTyped, Fraction, IntegerRange, TooNested, Memory}
-use Rattle.arz_query.specs.declared.query.Query.{Query}
+use Rattle.arz_query.specs.declared.query.Segment.{Segment}
 use Rattle.arz_path.specs.declared.place.Token.{Token}
 use Rattle.arz_path.specs.Outcome.{Outcome, given, wide, untold, Covers}
 use Rattle.arz_path.specs.Selected.{places}
@@ -48,7 +48,7 @@ Prints meant old new r = Covers meant (given r) ⊎ ((r ≡ pattern_form) × Ros
 pub data PathReport (bytes text : List ℕ) (old new : PatternsView) (r : Report) : Type 0 where
   not_json : tree_in bytes ≡ None → r ≡ refused (codes "NotJson") → PathReport bytes text old new r
   refusal : (root : Json) (fault : PathFault) → tree_in bytes ≡ Some root → Faults text fault → (fault ≢ Memory) → r ≡ refused (fault_line fault) → PathReport bytes text old new r
-  selection : (root : Json) (query : Query) → tree_in bytes ≡ Some root → Spells text query → Prints (selection_form (places query (setting_of old root))) old new r → PathReport bytes text old new r
+  selection : (root : Json) (vs : List Segment) → tree_in bytes ≡ Some root → Spells text vs → Prints (selection_form (places vs (setting_of old root))) old new r → PathReport bytes text old new r
 
 -- the pattern of an I-Regexp, as a line
 abbrev pub iregexp_form : Bool → List ℕ → Report

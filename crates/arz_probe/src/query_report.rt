@@ -1,6 +1,8 @@
 //! What is printed of a query over a file's bytes, and of an I-Regexp.
 
-ghost use Rattle.std.specs.Prelude.{◌≡◌, ◌++◌, ◌∷◌, [], ◌≢◌, IfOk, OnOk, map};
+ghost use Rattle.std.specs.Prelude.{◌≡◌, ◌++◌, ◌∷◌, [], ◌≢◌, List, IfOk, OnOk, map};
+ghost use Rattle.arz_query.specs.Answers.{Spells};
+ghost use Rattle.arz_query.specs.declared.query.Segment.{Segment};
 ghost use Rattle.arz_path.specs.Selected.{places as selected_places};
 ghost use Rattle.arz_path.specs.Results.{tokens_in, setting_of};
 ghost use Rattle.arz_probe.specs.Reports.{refused as refusal};
@@ -51,7 +53,8 @@ fn selection<P: Patterns>(
     root: &Json,
     patterns: &mut P,
 ) -> Result<Report, AllocError>
-    ensures { IfOk result (λ r. Prints (selection_form (selected_places query.now (setting_of (P.patterns patterns.old) root.now))) (P.patterns patterns.old) (P.patterns patterns.new) r) }
+    ensures { (vs : List Segment) → Spells query.now vs
+        → IfOk result (Prints (selection_form (selected_places vs (setting_of (P.patterns patterns.old) root.now))) (P.patterns patterns.old) (P.patterns patterns.new)) }
 {
     match select(alloc, query, root, patterns) {
         Ok(places) => listed(alloc, places.as_slice()),
