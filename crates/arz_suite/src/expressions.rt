@@ -31,15 +31,24 @@ pub fn expression(alloc: Global, case: &Case<'_>) -> Result<Outcome, CaseFault> 
     let Some(expression) = Expr::read(alloc, text.as_str())? else {
         return Ok(Outcome::words(alloc, "none")?);
     };
+    Ok(Outcome::text(expression_words(alloc, &expression)?))
+}
+
+fn expression_words(alloc: Global, expression: &Expr) -> Result<String, AllocError> {
     let mut words = base_words(alloc, &expression.base)?;
-    for tail in expression.tail.as_slice() {
-        words.push_str(tail_words(alloc, tail)?.as_str())?;
-    }
+    add_tails(alloc, expression.tail.as_slice(), &mut words)?;
     if let Some(pointer) = &expression.pointer {
         words.push_str(" #")?;
         words.push_str(pointer.as_str())?;
     }
-    Ok(Outcome::text(words))
+    Ok(words)
+}
+
+fn add_tails(alloc: Global, tails: &[Tail], words: &mut String) -> Result<(), AllocError> {
+    for tail in tails {
+        words.push_str(tail_words(alloc, tail)?.as_str())?;
+    }
+    Ok(())
 }
 
 fn tail_words(alloc: Global, tail: &Tail) -> Result<String, AllocError> {

@@ -15,12 +15,27 @@ use std::alloc::{AllocError, Global};
 /// What the expression `text` stands for in a run with a `description`, with `inputs`, after `facts`,
 /// and with an exchange where there is a `request`.
 pub fn scope(alloc: Global, case: &Case<'_>) -> Result<Outcome, CaseFault> {
-    let Some(sent) = case.member("request") else {
-        return seen(alloc, case, None);
-    };
-    let request = request(alloc, &case.inner(sent))?;
+    match case.member("request") {
+        None => seen(alloc, case, None),
+        Some(sent) => after_exchange(alloc, case, &case.inner(sent)),
+    }
+}
+
+fn after_exchange(alloc: Global, case: &Case<'_>, sent: &Case<'_>) -> Result<Outcome, CaseFault> {
+    let request = request(alloc, sent)?;
     let reply = reply(alloc, case)?;
-    let exchange = Exchange::new(alloc, &request, &reply)?;
+    seen_after(alloc, case, &request, &reply)
+}
+
+fn seen_after(
+    alloc: Global,
+    case: &Case<'_>,
+    request: &Request,
+    reply: &Reply,
+) -> Result<Outcome, CaseFault>
+    requires { SendsShallow request.now }
+{
+    let exchange = Exchange::new(alloc, request, reply)?;
     seen(alloc, case, Some(&exchange))
 }
 
