@@ -4,6 +4,8 @@
 
 mod folder_files;
 mod stdout_sink;
+#[cfg(test)]
+mod tests;
 
 use arz_top::run_words;
 use arz_world::Sink;
