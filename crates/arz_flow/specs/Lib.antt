@@ -2,6 +2,7 @@ pub mod Documents
 pub mod Texts
 pub mod Outcomes
 pub mod Outputs
+pub mod Parameters
 pub mod Paths
 pub mod Urls
 pub mod Fillings

@@ -6,9 +6,7 @@ use Rattle.std.specs.Fmt.{decimal}
 use Rattle.std.specs.Str.{bytes_eq, str_to_ascii_uppercase}
 use Rattle.std.specs.declared.option.Option.{Option}
 use Rattle.std.specs.declared.result.Result.TheVariants.{Ok, Err}
-use Rattle.arz_json.specs.Look.{member_in}
 use Rattle.arz_json.specs.declared.Json.{Json}
-use Rattle.arz_json.specs.declared.Json.TheVariants.{Null}
 use Rattle.arz_json.specs.declared.Location.TheVariants.{Path}
 use Rattle.arz_world.specs.declared.Server.{Server}
 use Rattle.arz_world.specs.declared.Header.{Header}
@@ -18,9 +16,10 @@ use Rattle.arz_expr.specs.declared.syntax.Base.{Base}
 use Rattle.arz_flow.specs.declared.answers.Cause.TheVariants.{RequestTooLarge}
 use Rattle.arz_flow.specs.declared.bundle.Bundle.{Bundle}
 use Rattle.arz_flow.specs.Bytes.{request_bytes, request_limit}
-use Rattle.arz_flow.specs.Documents.{text_at, items_at, Operation, operation_of}
+use Rattle.arz_flow.specs.Documents.{Operation, operation_of}
 use Rattle.arz_flow.specs.Fillings.{filling}
 use Rattle.arz_flow.specs.Outcomes.{Made, and_then, made_of}
+use Rattle.arz_flow.specs.Parameters.{Parameter, parameters_of}
 use Rattle.arz_flow.specs.Paths.{Part, Name, Byte, parts}
 use Rattle.arz_flow.specs.Styles.{simple}
 use Rattle.arz_flow.specs.Urls.{server_of}
@@ -36,17 +35,13 @@ sent_as name value = record { place = Path; name = name; value = value }
 abbrev pub written_as : List ℕ → Json → Made Given
 written_as name value = made_of (λ text. record { sent = sent_as name value; text = text }) (simple value)
 
--- what a parameter's value is written as
-abbrev pub template_of : Json → Json
-template_of parameter = unwrap_or (member_in (codes "value") parameter) Null
-
 module _ (found : Base → Option Json) where
   -- a parameter, filled and then written
-  abbrev pub given : Json → Made Given
-  given parameter = and_then (filling found (template_of parameter)) (written_as (text_at (codes "name") parameter))
+  abbrev pub given : Parameter → Made Given
+  given parameter = and_then (filling found parameter.value) (written_as parameter.name)
 
   -- in order, up to the first that can't be
-  abbrev pub all_given : List Json → Made (List Given)
+  abbrev pub all_given : List Parameter → Made (List Given)
   all_given [] = Ok []
   all_given (p ∷ ps) = and_then (given p) (λ g. made_of (λ gs. g ∷ gs) (all_given ps))
 
@@ -102,10 +97,10 @@ request_to operation gs = request_at (unwrap_or (server_of operation.url) no_ser
 abbrev pub within_limit : Request → Made Request
 within_limit q = if nat_le (length (request_bytes q)) request_limit then Ok q else Err RequestTooLarge
 
--- the request of an operation with the parameters that a step gives, or the first cause why there is none
-abbrev pub request_by : (Base → Option Json) → Operation → Json → Made Request
-request_by found operation step = and_then (all_given found (items_at (codes "parameters") step)) (λ gs. within_limit (request_to operation gs))
+-- the request of an operation with these parameters, or the first cause why there is none
+abbrev pub request_by : (Base → Option Json) → Operation → List Parameter → Made Request
+request_by found operation parameters = and_then (all_given found parameters) (λ gs. within_limit (request_to operation gs))
 
 -- the request of a step
 abbrev pub request_of : Bundle → (Base → Option Json) → Json → Made Request
-request_of b found step = request_by found (operation_of b step) step
+request_of b found step = request_by found (operation_of b step) (parameters_of b.arazzo step)

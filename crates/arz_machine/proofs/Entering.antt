@@ -17,6 +17,7 @@ use Rattle.arz_flow.specs.Cases.{surroundings, spot, run_outputs, outputs_at_end
 use Rattle.arz_flow.specs.Documents.{Operation, text_at, steps_of, workflow_named}
 use Rattle.arz_flow.specs.Outcomes.{Made}
 use Rattle.arz_flow.specs.Outputs.{outputs_of}
+use Rattle.arz_flow.specs.Parameters.{parameters_of}
 use Rattle.arz_flow.specs.Requests.{request_by}
 use Rattle.arz_flow.specs.Scopes.{Nothing, Exchange, found}
 use Rattle.arz_flow.proofs.Within.{step-within}
@@ -42,23 +43,23 @@ made_fact id outputs = record { step = id; outputs = outputs }
 module _ (b : Bundle) (facts : List Fact) (read step : Json) (same : read ≡ step) where
   -- what is made of the step that was read
   pub enters_as : (s : Speaking) (o : Operation) (sources : List Named) (made : Made Request) → s ≡ spoken b facts None → o ≡ operation_in sources read → sources ≡ b.sources
-      → request_by (found (spoken_run s) (attempt_of s.exchange)) o read ≡ made → rest_by made (spot (run_of b facts) step) ≡ entered b facts step
+      → request_by (found (spoken_run s) (attempt_of s.exchange)) o (parameters_of b.arazzo read) ≡ made → rest_by made (spot (run_of b facts) step) ≡ entered b facts step
   unfolding spoken
   enters_as s o sources made speaks op known e =
       let here = found (surroundings b (run_of b facts) []) Nothing in
       ap (λ z. rest_by z (spot (run_of b facts) step))
       (sym e
-      ∙ ap (λ z. request_by (found (spoken_run z) (attempt_of z.exchange)) o read) speaks
-      ∙ ap (λ z. request_by here z read) (op ∙ ap (λ l. operation_in l read) known)
-      ∙ ap (λ z. request_by here (operation_in b.sources z) z) same)
+      ∙ ap (λ z. request_by (found (spoken_run z) (attempt_of z.exchange)) o (parameters_of b.arazzo read)) speaks
+      ∙ ap (λ z. request_by here z (parameters_of b.arazzo read)) (op ∙ ap (λ l. operation_in l read) known)
+      ∙ ap (λ z. request_by here (operation_in b.sources z) (parameters_of b.arazzo z)) same)
 
   pub stuck_at : (at_read : Spot) (cause : Cause) → at_read ≡ spot (run_of b facts) read → Ended (Stuck cause at_read) ≡ rest_by (Err cause) (spot (run_of b facts) step)
   stuck_at at_read cause e = ap (λ z. Ended (Stuck cause z)) (e ∙ ap (spot (run_of b facts)) same)
 
   -- the cause why there is no request
-  pub stuck_by : (s : Speaking) (o : Operation) (fault : BuildFault) (cause : Cause) → Builds (Err fault) (request_by (found (spoken_run s) (attempt_of s.exchange)) o read)
-      → fault ≡ StuckFault cause → request_by (found (spoken_run s) (attempt_of s.exchange)) o read ≡ Err cause
-  stuck_by s o fault cause builds is = subst (λ f. Builds (Err f) (request_by (found (spoken_run s) (attempt_of s.exchange)) o read)) is builds
+  pub stuck_by : (s : Speaking) (o : Operation) (fault : BuildFault) (cause : Cause) → Builds (Err fault) (request_by (found (spoken_run s) (attempt_of s.exchange)) o (parameters_of b.arazzo read))
+      → fault ≡ StuckFault cause → request_by (found (spoken_run s) (attempt_of s.exchange)) o (parameters_of b.arazzo read) ≡ Err cause
+  stuck_by s o fault cause builds is = subst (λ f. Builds (Err f) (request_by (found (spoken_run s) (attempt_of s.exchange)) o (parameters_of b.arazzo read))) is builds
 
   -- the fact of the step that was read
   pub fact_as : (s : Speaking) (q : Request) (y : Reply) (id : List ℕ) (outputs : List Member) → s ≡ spoken b facts (Some (q, y)) → id ≡ text_at (codes "stepId") read

@@ -47,7 +47,7 @@ impl<'a> Run<'a> {
         let step = &self.steps[index];
         let scope = self.scope(None)?;
         let operation = self.operations.operation_of(step);
-        match request(self.alloc, &operation, step, &scope) {
+        match request(self.alloc, &operation, &self.bundle.arazzo, step, &scope) {
             Ok(request) => Ok(State::Sends(Ready { request })),
             Err(BuildFault::Stuck(cause)) => Ok(State::Ended(End::Stuck(cause, self.spot(step)?))),
             Err(BuildFault::Memory) => Err(AllocError),

@@ -1,5 +1,7 @@
 -- What stands under a name in a well-formed tree is well-formed.
-use Rattle.std.proofs.Common.{◌≡◌, ℕ, ◌<◌, List, [], length, get_or, Option, Some, None, option_and_then, unwrap_or, refl, sym, ap, ◌∙◌, subst, arith}
+use Rattle.std.proofs.Common.{◌≡◌, ℕ, ◌<◌, List, [], length, codes, get_or, Option, Some, None, option_and_then, unwrap_or, IfSome, refl, sym, ap, ◌∙◌, subst, arith}
+use denote.Ref.{Bor}
+use Rattle.std.specs.Option.{option_copied}
 use Rattle.std.proofs.lemmas.Option.{option_and_then_some, slice_get-get_or}
 use Rattle.arz_json.specs.Look.{object_in, object_step, list_in, list_step, member_in}
 use Rattle.arz_json.specs.Pointer.{member_named}
@@ -11,6 +13,7 @@ use Rattle.arz_json.specs.declared.tree.Json.TheViews.{out-Json, roll-Json, roll
 use Rattle.arz_json.specs.declared.Member.{Member}
 use Rattle.arz_json.proofs.Parts.{IsWellFormed-item, IsWellFormed-member}
 use Rattle.arz_flow.specs.Documents.{items_at}
+use Rattle.arz_flow.specs.Parameters.{component_with}
 
 some-same : {A : Type 0} (x y : A) → Some x ≡ Some y → x ≡ y
 some-same x y e = ap (λ o. unwrap_or o x) e
@@ -48,3 +51,13 @@ item-form name j i k lt is form =
     (λ ks found. option_and_then_some list_in (member_in name j) (ks) found (λ m at got.
     subst IsWellFormed (list-rolls m (out-Json m) ks refl got) (member-form name j m at form)))
     lt is
+
+pub component-form : (name : List ℕ) (d k : Json) → component_with d name ≡ Some k → IsWellFormed d → IsWellFormed k
+component-form name d k found form =
+    option_and_then_some (member_in name) (option_and_then (member_in (codes "parameters")) (member_in (codes "components") d)) k found (λ ps is at.
+    option_and_then_some (member_in (codes "parameters")) (member_in (codes "components") d) ps is (λ cs within got.
+    member-form name ps k at (member-form (codes "parameters") cs ps got (member-form (codes "components") d cs within form))))
+
+pub component-forms : (name : List ℕ) (d : Json) (r : Option (Bor Json)) → option_copied r ≡ component_with d name → IsWellFormed d → IfSome r (λ k. IsWellFormed k.now)
+component-forms name d None is form = tt
+component-forms name d (Some k) is form = component-form name d k.now (sym is) form

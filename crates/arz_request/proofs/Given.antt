@@ -1,5 +1,5 @@
 -- The parameters that are given, one after the other.
-use Rattle.std.proofs.Common.{◌≡◌, ℕ, ◌+◌, ◌<◌, List, [], ◌∷◌, ◌++◌, length, drop, get_or, Option, Ok, Err, refl, ap, sym, ◌∙◌, append_assoc, append-nil, drop-cons, add-one}
+use Rattle.std.proofs.Common.{◌≡◌, ℕ, ◌+◌, ◌<◌, List, [], ◌∷◌, ◌++◌, length, map, drop, get_or, Option, Ok, Err, refl, ap, sym, ◌∙◌, append_assoc, append-nil, drop-cons, add-one}
 use Rattle.arz_json.specs.declared.Json.{Json}
 use Rattle.arz_expr.specs.declared.syntax.Base.{Base}
 use Rattle.arz_flow.specs.declared.answers.Cause.{Cause}
@@ -7,6 +7,7 @@ use Rattle.arz_request.specs.declared.faults.BuildFault.{BuildFault}
 use Rattle.arz_request.specs.declared.faults.BuildFault.TheVariants.{Stuck, Memory}
 use Rattle.arz_request.specs.Builds.{Builds, BuildsAll}
 use Rattle.arz_flow.specs.Outcomes.{Made, made_of, and_then}
+use Rattle.arz_flow.specs.Parameters.{parameter_of}
 use Rattle.arz_flow.specs.Requests.{Given, given, all_given}
 
 -- these, and behind them those
@@ -16,8 +17,15 @@ behind gs made = made_of (λ others. gs ++ others) made
 abbrev with_first : Made Given → Made (List Given) → Made (List Given)
 with_first g gs = and_then g (λ x. made_of (λ xs. x ∷ xs) gs)
 
-module _ (found : Base → Option Json) where
-  from : (ps : List Json) (i : ℕ) (p : Json) → i < length ps → p ≡ get_or ps i p → all_given found (drop i ps) ≡ with_first (given found p) (all_given found (drop (i + 1) ps))
+-- those that items of a description stand for
+abbrev pub given_by : (Base → Option Json) → (description : Json) → List Json → Made (List Given)
+given_by found description items = all_given found (map (parameter_of description) items)
+
+abbrev pub given_as : (Base → Option Json) → (description : Json) → Json → Made Given
+given_as found description item = given found (parameter_of description item)
+
+module _ (found : Base → Option Json) (d : Json) where
+  from : (ps : List Json) (i : ℕ) (p : Json) → i < length ps → p ≡ get_or ps i p → given_by found d (drop i ps) ≡ with_first (given_as found d p) (given_by found d (drop (i + 1) ps))
   from ps i p lt is = rw (add-one, drop-cons ps i p lt, ← is) refl
 
   first-behind : (gs : List Given) (g : Given) (rest : Made (List Given)) → behind gs (made_of (λ xs. g ∷ xs) rest) ≡ behind (gs ++ g ∷ []) rest
@@ -25,19 +33,19 @@ module _ (found : Base → Option Json) where
   first-behind gs g (Err c) = refl
 
   pub one-more : (ps : List Json) (i : ℕ) (p : Json) (gs hs : List Given) (g : Given) → i < length ps → p ≡ get_or ps i p
-      → all_given found ps ≡ behind gs (all_given found (drop i ps)) → given found p ≡ Ok g → hs ≡ gs ++ g ∷ []
-      → all_given found ps ≡ behind hs (all_given found (drop (i + 1) ps))
+      → given_by found d ps ≡ behind gs (given_by found d (drop i ps)) → given_as found d p ≡ Ok g → hs ≡ gs ++ g ∷ []
+      → given_by found d ps ≡ behind hs (given_by found d (drop (i + 1) ps))
   one-more ps i p gs hs g lt is before made here =
-      before ∙ ap (behind gs) (from ps i p lt is ∙ ap (λ m. with_first m (all_given found (drop (i + 1) ps))) made)
-      ∙ first-behind gs g (all_given found (drop (i + 1) ps)) ∙ ap (λ xs. behind xs (all_given found (drop (i + 1) ps))) (sym here)
+      before ∙ ap (behind gs) (from ps i p lt is ∙ ap (λ m. with_first m (given_by found d (drop (i + 1) ps))) made)
+      ∙ first-behind gs g (given_by found d (drop (i + 1) ps)) ∙ ap (λ xs. behind xs (given_by found d (drop (i + 1) ps))) (sym here)
 
   pub stopped : (ps : List Json) (i : ℕ) (p : Json) (gs : List Given) (c : Cause) → i < length ps → p ≡ get_or ps i p
-      → all_given found ps ≡ behind gs (all_given found (drop i ps)) → given found p ≡ Err c → all_given found ps ≡ Err c
+      → given_by found d ps ≡ behind gs (given_by found d (drop i ps)) → given_as found d p ≡ Err c → given_by found d ps ≡ Err c
   stopped ps i p gs c lt is before made =
-      before ∙ ap (behind gs) (from ps i p lt is ∙ ap (λ m. with_first m (all_given found (drop (i + 1) ps))) made)
+      before ∙ ap (behind gs) (from ps i p lt is ∙ ap (λ m. with_first m (given_by found d (drop (i + 1) ps))) made)
 
   pub fails : (A : Type 0) (ps : List Json) (i : ℕ) (p : Json) (gs : List Given) (f : BuildFault) → i < length ps → p ≡ get_or ps i p
-      → all_given found ps ≡ behind gs (all_given found (drop i ps)) → Builds (Err f) (given found p) → BuildsAll {A = A} (Err f) (all_given found ps)
+      → given_by found d ps ≡ behind gs (given_by found d (drop i ps)) → Builds (Err f) (given_as found d p) → BuildsAll {A = A} (Err f) (given_by found d ps)
   fails A ps i p gs (Stuck c) lt is before made = stopped ps i p gs c lt is before made
   fails A ps i p gs Memory lt is before made = tt
 

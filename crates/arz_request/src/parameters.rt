@@ -1,9 +1,11 @@
 // The parameters that a step gives, filled and written.
-ghost use Rattle.std.specs.Prelude.{◌≡◌, codes, IfOk};
+ghost use Rattle.std.specs.Prelude.{◌≡◌, IfOk, IfSome};
+ghost use Rattle.std.specs.Option.{option_copied};
 ghost use Rattle.arz_json.specs.Tree.{IsWellFormed};
-ghost use Rattle.arz_flow.specs.Documents.{items_at as items_under};
+ghost use Rattle.arz_expr.specs.Reading.{after};
 ghost use Rattle.arz_flow.specs.Fillings.{filling};
-ghost use Rattle.arz_flow.specs.Requests.{given, all_given, template_of, written_as};
+ghost use Rattle.arz_flow.specs.Parameters.{parameters_of, parameter_of, parameter_by, component_key, component_with, component_at as component_named, component_of as component_meant};
+ghost use Rattle.arz_flow.specs.Requests.{given, all_given, written_as};
 ghost use Rattle.arz_flow.specs.Shallow.{IsShallow};
 ghost use Rattle.arz_request.specs.Builds.{Builds, BuildsAll};
 
@@ -63,41 +65,107 @@ impl Written {
     }
 }
 
-/// The parameters that a step gives, in order, up to the first that can't be filled or written.
+/// The parameters that a step of a description gives, in order, up to the first that can't be filled
+/// or written. A reusable object stands for its component (Arazzo 1.0.1, 4.6.10).
 pub(crate) fn write_all<S: Scope>(
     alloc: Global,
+    description: &Json,
     step: &Json,
     scope: &S,
 ) -> Result<Vec<Written>, BuildFault>
-    requires { IsWellFormed step.now }
-    ensures { BuildsAll result (all_given (S.found scope.now) (items_under (codes "parameters") step.now)) }
+    requires description { IsWellFormed description.now }
+    requires step { IsWellFormed step.now }
+    ensures { BuildsAll result (all_given (S.found scope.now) (parameters_of description.now step.now)) }
 {
     let mut all = Vec::new(alloc);
-    for parameter in items_at(step, "parameters") {
-        all.push(write(alloc, parameter, scope)?)?;
+    for item in items_at(step, "parameters") {
+        all.push(write(alloc, description, item, scope)?)?;
     }
     Ok(all)
 }
 
 // A parameter, filled and then written.
-fn write<S: Scope>(alloc: Global, parameter: &Json, scope: &S) -> Result<Written, BuildFault>
-    requires { IsWellFormed parameter.now }
-    ensures { Builds result (given (S.found scope.now) parameter.now) }
+fn write<S: Scope>(
+    alloc: Global,
+    description: &Json,
+    item: &Json,
+    scope: &S,
+) -> Result<Written, BuildFault>
+    requires description { IsWellFormed description.now }
+    requires item { IsWellFormed item.now }
+    ensures { Builds result (given (S.found scope.now) (parameter_of description.now item.now)) }
 {
-    let value = filled(alloc, parameter, scope)?;
-    write_value(alloc, text_at(parameter, "name"), value)
+    let component = component_of(description, item);
+    let value = filled(alloc, component, item, scope)?;
+    write_value(alloc, text_at(component, "name"), value)
 }
 
-// The value that a parameter's `value` gives.
-fn filled<S: Scope>(alloc: Global, parameter: &Json, scope: &S) -> Result<Json, BuildFault>
-    requires { IsWellFormed parameter.now }
-    ensures builds { Builds result (filling (S.found scope.now) (template_of parameter.now)) }
+// The component that a reusable object names; what is no such object stands for itself.
+fn component_of<'a>(description: &'a Json, item: &'a Json) -> &'a Json
+    requires description { IsWellFormed description.now }
+    requires item { IsWellFormed item.now }
+    ensures meant { result.now ≡ component_meant description.now item.now }
+    ensures form { IsWellFormed result.now }
+{
+    match item.get("reference") {
+        Some(Json::Text(reference)) => match component_at(description, reference.as_str()) {
+            Some(component) => component,
+            None => item,
+        },
+        _ => item,
+    }
+}
+
+fn component_at<'a>(description: &'a Json, reference: &str) -> Option<&'a Json>
+    requires { IsWellFormed description.now }
+    ensures named { option_copied result ≡ component_named description.now reference.now }
+    ensures form { IfSome result (λ component. IsWellFormed component.now) }
+{
+    match component_name(reference) {
+        Some(name) => component(description, name),
+        None => None,
+    }
+}
+
+fn component_name(reference: &str) -> Option<&str>
+    ensures { option_copied result ≡ after component_key reference.now }
+{
+    reference.strip_prefix("$components.parameters.")
+}
+
+fn component<'a>(description: &'a Json, name: &str) -> Option<&'a Json>
+    ensures { option_copied result ≡ component_with description.now name.now }
+{
+    description.get("components")?.get("parameters")?.get(name)
+}
+
+// The value of a parameter: its own counts before the component's.
+fn filled<S: Scope>(
+    alloc: Global,
+    component: &Json,
+    item: &Json,
+    scope: &S,
+) -> Result<Json, BuildFault>
+    requires component { IsWellFormed component.now }
+    requires item { IsWellFormed item.now }
+    ensures builds { Builds result (filling (S.found scope.now) (parameter_by component.now item.now).value) }
     ensures shallow { IfOk result IsShallow }
 {
-    let template = match parameter.get("value") {
-        Some(value) => Template::read(alloc, value)?,
-        None => Template::read(alloc, &Json::Null)?,
-    };
+    match item.get("value") {
+        Some(value) => fill_value(alloc, value, scope),
+        None => match component.get("value") {
+            Some(value) => fill_value(alloc, value, scope),
+            None => fill_value(alloc, &Json::Null, scope),
+        },
+    }
+}
+
+fn fill_value<S: Scope>(alloc: Global, value: &Json, scope: &S) -> Result<Json, BuildFault>
+    requires { IsWellFormed value.now }
+    ensures builds { Builds result (filling (S.found scope.now) value.now) }
+    ensures shallow { IfOk result IsShallow }
+{
+    let template = Template::read(alloc, value)?;
     Ok(fill(alloc, &template, scope)?)
 }
 

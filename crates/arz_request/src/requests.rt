@@ -4,6 +4,7 @@ ghost use Rattle.std.specs.Str.{str_to_ascii_uppercase};
 ghost use Rattle.std.specs.Option.{option_copied};
 ghost use Rattle.arz_json.specs.Tree.{IsWellFormed};
 ghost use Rattle.arz_flow.specs.Documents.{workflow_named as workflow_with, steps_of};
+ghost use Rattle.arz_flow.specs.Parameters.{parameters_of};
 ghost use Rattle.arz_flow.specs.Requests.{expanded, request_by, request_to, within_limit, headers_for, header as header_of, no_server, port_suffix};
 ghost use Rattle.arz_flow.specs.Shallow.{IsShallow, SendsShallow};
 ghost use Rattle.arz_flow.specs.Urls.{server_of as server_named};
@@ -49,21 +50,23 @@ fn workflow_named<'a>(description: &'a Json, id: &str) -> Option<&'a Json>
     workflows.iter().find(|w| text_at(w, "workflowId") == id)
 }
 
-/// The request of an operation with the parameters that a step gives (Arazzo 1.0.1, 4.6.5), each
-/// filled with what the scope finds and then written in the style `simple`. It is stuck by the first
-/// parameter that can't be filled or written, or where its bytes pass 1,048,576. Its values nest at
-/// most 127 deep.
+/// The request of an operation with the parameters that a step of a description gives (Arazzo 1.0.1,
+/// 4.6.5), each filled with what the scope finds and then written in the style `simple`. It is stuck by
+/// the first parameter that can't be filled or written, or where its bytes pass 1,048,576. Its values
+/// nest at most 127 deep.
 pub fn request<S: Scope>(
     alloc: Global,
     operation: &OperationAt,
+    description: &Json,
     step: &Json,
     scope: &S,
 ) -> Result<Request, BuildFault>
-    requires { IsWellFormed step.now }
-    ensures builds { Builds result (request_by (S.found scope.now) (seen operation.now) step.now) }
+    requires description { IsWellFormed description.now }
+    requires step { IsWellFormed step.now }
+    ensures builds { Builds result (request_by (S.found scope.now) (seen operation.now) (parameters_of description.now step.now)) }
     ensures shallow { IfOk result SendsShallow }
 {
-    let parameters = write_all(alloc, step, scope)?;
+    let parameters = write_all(alloc, description, step, scope)?;
     make(alloc, operation, parameters)
 }
 

@@ -7,11 +7,12 @@ use arz_flow::Cause;
 use arz_request::{BuildFault, OperationAt, request as request_of};
 use std::alloc::Global;
 
-/// The request of the step `step` at an operation under `path`, where each base of an expression is
-/// the tree `values`: its method and target, and how many values and header lines it has; or why there
-/// is none.
+/// The request of the step `step` of the description `description` at an operation under `path`, where
+/// each base of an expression is the tree `values`: its method and target, and how many values and header
+/// lines it has; or why there is none.
 pub fn request(alloc: Global, case: &Case<'_>) -> Result<Outcome, CaseFault> {
     let scope = scope_of(alloc, case)?;
+    let description = case.json(alloc, "description")?;
     let step = case.json(alloc, "step")?;
     let operation = OperationAt {
         path: case.word("path"),
@@ -19,7 +20,7 @@ pub fn request(alloc: Global, case: &Case<'_>) -> Result<Outcome, CaseFault> {
         id: "getPet",
         url: "http://h",
     };
-    match request_of(alloc, &operation, &step, &scope) {
+    match request_of(alloc, &operation, &description, &step, &scope) {
         Ok(request) => Ok(Outcome::text(format!(in alloc;
             "{} {} {} {}",
             request.method.as_str(),

@@ -4,8 +4,11 @@ use Rattle.arz_request.specs.Operations.{seen}
 use Rattle.arz_machine.proofs.Entering.{step_shallow, the_step, enters_as, stuck_at, stuck_by}
 use Rattle.arz_machine.proofs.run.Run.enter.Goals as goal
 
-pub request-requires : goal.request-requires
-request-requires c =
+pub request-requires-clause-description : goal.request-requires-clause-description
+request-requires-clause-description c = IsWithin-more 127 130 _ (omega arith) c.args.self.now.valid.arazzo
+
+pub request-requires-clause-step : goal.request-requires-clause-step
+request-requires-clause-step c =
     let run = c.args.self.now in
     IsWithin-more 127 130 _ (omega arith) (step_shallow run.bundle.now run.steps.now c.args.index c.index-self-index.result run.valid.arazzo run.listed c.requires)
 
