@@ -6,10 +6,10 @@ use Rattle.std.specs.declared.vec.Vec.{Vec}
 use Rattle.std.specs.declared.alloc.Global.{Global}
 use Rattle.arz_rx.specs.Patterns.{PatternsView, Rose, Told}
 use Rattle.arz_query.specs.declared.query.Operand.{Operand}
-use Rattle.arz_path.specs.declared.place.Token.{Token}
+use Rattle.arz_json.specs.declared.place.Token.{Token}
 use Rattle.arz_path.specs.declared.nodes.Branch.{Branch}
-use Rattle.arz_path.specs.declared.place.SelectFault.{SelectFault}
-use Rattle.arz_path.specs.declared.place.SelectFault.TheVariants as fault
+use Rattle.arz_path.specs.declared.fault.SelectFault.{SelectFault}
+use Rattle.arz_path.specs.declared.fault.SelectFault.TheVariants as fault
 use Rattle.arz_path.specs.Outcome.{Outcome, given, wide, and_then, outcome_map, Covers}
 use Rattle.arz_path.specs.Tree.{Node}
 use Rattle.arz_path.specs.Selected.{Setting, operand_meaning, pair_of}

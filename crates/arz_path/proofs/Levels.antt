@@ -8,8 +8,8 @@ use Rattle.arz_json.specs.declared.tree.Json.TheFolds.{para-Member, para-roll-Js
 use Rattle.arz_json.specs.declared.tree.Json.TheVariants.{List as ListOf, Object, rolls-List, rolls-Object}
 use Rattle.arz_json.specs.declared.tree.Json.TheViews.{roll-Json, out-Json, roll-out-Json, out-roll-Json, out-Member, roll-out-Member}
 use Rattle.arz_json.specs.declared.tree.Member.{Member}
-use Rattle.arz_path.specs.declared.place.Token.{Token}
-use Rattle.arz_path.specs.declared.place.Token.TheVariants.{Name, Index}
+use Rattle.arz_json.specs.declared.place.Token.{Token}
+use Rattle.arz_json.specs.declared.place.Token.TheVariants.{Name, Index}
 use Rattle.arz_json.specs.declared.tree.Json.TheVariants.{Int, rolls-Int}
 use Rattle.std.specs.Prelude.{filter}
 use Rattle.arz_path.specs.Tree.{Node, preorder, under, below, below_step, named_child, with_child, items_in, members_in, items_of, members_of, item_child, member_child, children}

@@ -14,8 +14,8 @@ use Rattle.arz_query.specs.declared.query.Operand.{Operand}
 use Rattle.arz_query.specs.declared.query.Operand.TheVariants.{Query as QueryOf, Count, Int as IntOperand}
 use Rattle.arz_query.specs.declared.query.Start.TheVariants.{Current}
 use Rattle.arz_query.specs.declared.query.Comparison.TheVariants.{Equal, Greater}
-use Rattle.arz_path.specs.declared.place.Token.{Token}
-use Rattle.arz_path.specs.declared.place.Token.TheVariants.{Name, Index}
+use Rattle.arz_json.specs.declared.place.Token.{Token}
+use Rattle.arz_json.specs.declared.place.Token.TheVariants.{Name, Index}
 use Rattle.arz_path.specs.Outcome.{given}
 use Rattle.arz_path.specs.Values.{is_same, same_step}
 use Rattle.arz_path.specs.Selected.{places, selected}

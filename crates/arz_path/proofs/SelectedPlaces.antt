@@ -29,8 +29,8 @@ use Rattle.arz_query.specs.declared.query.Test.{Test}
 use Rattle.arz_query.specs.declared.query.Operand.{Operand}
 use Rattle.arz_query.specs.declared.query.Operand.TheOpen.{Segment-F, Selector-F}
 use Rattle.arz_query.specs.declared.query.Operand.TheViews as views
-use Rattle.arz_path.specs.declared.place.Token.{Token}
-use Rattle.arz_path.specs.declared.place.Token.TheVariants.{Name, Index}
+use Rattle.arz_json.specs.declared.place.Token.{Token}
+use Rattle.arz_json.specs.declared.place.Token.TheVariants.{Name, Index}
 use Rattle.arz_path.specs.Outcome.{Outcome, given, wide, untold, and_then, outcome_map, each}
 use Rattle.arz_path.specs.Tree.{Node, items_in, items_of, members_in, members_of, item_child, member_child, children, preorder}
 use Rattle.arz_path.specs.Selected.{Setting, widest, kept, below_node, is_name, index_in, indexed_at, is_taken, in_direction, sliced, run, selected, segment_meaning, selector_meaning, test_meaning}

@@ -5,7 +5,7 @@ use Rattle.arz_json.specs.declared.tree.Json.{Json}
 use Rattle.arz_query.specs.declared.query.Segment.{Segment}
 use Rattle.arz_query.specs.declared.query.Selector.{Selector}
 use Rattle.arz_query.specs.declared.query.Test.{Test}
-use Rattle.arz_path.specs.declared.place.Token.{Token}
+use Rattle.arz_json.specs.declared.place.Token.{Token}
 use Rattle.arz_path.specs.declared.nodes.Held.{Held}
 use Rattle.arz_path.specs.declared.nodes.Branch.{Branch}
 use Rattle.arz_path.specs.Outcome.{Outcome, given, wide, outcome_map, each, Covers}

@@ -2,8 +2,8 @@
 use Rattle.std.specs.Prelude.{◌≡◌, List, [], ◌∷◌, Option, Some, option_and_then, slice_get}
 use Rattle.arz_json.specs.Look.{member_in}
 use Rattle.arz_json.specs.declared.tree.Json.{Json}
-use Rattle.arz_path.specs.declared.place.Token.{Token}
-use Rattle.arz_path.specs.declared.place.Token.TheVariants.{Name, Index}
+use Rattle.arz_json.specs.declared.place.Token.{Token}
+use Rattle.arz_json.specs.declared.place.Token.TheVariants.{Name, Index}
 use Rattle.arz_path.specs.Outcome.{Outcome, given, wide, untold}
 use Rattle.arz_path.specs.Tree.{Node, items_of}
 

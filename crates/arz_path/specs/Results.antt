@@ -4,10 +4,10 @@ use Rattle.arz_json.specs.declared.tree.Json.{Json}
 use Rattle.arz_rx.specs.Patterns.{PatternsView, Rose}
 use Rattle.arz_query.specs.Answers.{Spells}
 use Rattle.arz_query.specs.declared.query.Segment.{Segment}
-use Rattle.arz_path.specs.declared.place.Token.{Token}
-use Rattle.arz_path.specs.declared.place.Place.{Place}
-use Rattle.arz_path.specs.declared.place.SelectFault.{SelectFault}
-use Rattle.arz_path.specs.declared.place.SelectFault.TheVariants as fault
+use Rattle.arz_json.specs.declared.place.Token.{Token}
+use Rattle.arz_json.specs.declared.place.Place.{Place}
+use Rattle.arz_path.specs.declared.fault.SelectFault.{SelectFault}
+use Rattle.arz_path.specs.declared.fault.SelectFault.TheVariants as fault
 use Rattle.arz_path.specs.Outcome.{Outcome, given, wide, Covers}
 use Rattle.arz_path.specs.Selected.{Setting, places, is_any}
 

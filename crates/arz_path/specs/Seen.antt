@@ -12,16 +12,16 @@ use Rattle.arz_query.specs.declared.query.Start.{Start}
 use Rattle.arz_query.specs.declared.query.Selector.{Selector}
 use Rattle.arz_query.specs.declared.query.Segment.{Segment}
 use Rattle.arz_query.specs.declared.query.Test.{Test}
-use Rattle.arz_path.specs.declared.place.Token.{Token}
-use Rattle.arz_path.specs.declared.place.Token.TheVariants.{Name, Index}
+use Rattle.arz_json.specs.declared.place.Token.{Token}
+use Rattle.arz_json.specs.declared.place.Token.TheVariants.{Name, Index}
 use Rattle.arz_path.specs.declared.nodes.Step.{Step}
 use Rattle.arz_path.specs.declared.nodes.Step.TheVariants as step
 use Rattle.arz_path.specs.declared.nodes.Trail.{Trail, Child'}
 use Rattle.arz_path.specs.declared.nodes.Trail.{Start as Begin}
 use Rattle.arz_path.specs.declared.nodes.Held.{Held}
 use Rattle.arz_path.specs.declared.nodes.Branch.{Branch}
-use Rattle.arz_path.specs.declared.place.SelectFault.{SelectFault}
-use Rattle.arz_path.specs.declared.place.SelectFault.TheVariants as fault
+use Rattle.arz_path.specs.declared.fault.SelectFault.{SelectFault}
+use Rattle.arz_path.specs.declared.fault.SelectFault.TheVariants as fault
 use Rattle.arz_path.specs.Results.{Fails}
 use Rattle.arz_path.specs.Outcome.{Outcome, given, wide, and_then, outcome_map, each, parts, Covers}
 use Rattle.arz_path.specs.Tree.{Node, preorder}

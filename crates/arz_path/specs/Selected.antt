@@ -18,8 +18,8 @@ use Rattle.arz_query.specs.declared.query.Test.{Test}
 use Rattle.arz_query.specs.declared.query.Operand.{Operand}
 use Rattle.arz_query.specs.declared.query.Operand.TheOpen.{Segment-F, Selector-F, Test-F, Operand-F}
 use Rattle.arz_query.specs.declared.query.Operand.TheFolds.{fold-Segment, fold-Selector, fold-Test, fold-Operand}
-use Rattle.arz_path.specs.declared.place.Token.{Token}
-use Rattle.arz_path.specs.declared.place.Token.TheVariants.{Name, Index}
+use Rattle.arz_json.specs.declared.place.Token.{Token}
+use Rattle.arz_json.specs.declared.place.Token.TheVariants.{Name, Index}
 use Rattle.arz_path.specs.Outcome.{Outcome, given, wide, untold, and_then, outcome_map, each, parts}
 use Rattle.arz_path.specs.Tree.{Node, items_of, item_child, children, preorder}
 use Rattle.arz_path.specs.Values.{compared, length_of}

@@ -5,8 +5,8 @@ use Rattle.arz_json.specs.declared.tree.Json.{Json, out-Json}
 use Rattle.arz_json.specs.declared.tree.Json.TheOpen.{Json-F, Member-F}
 use Rattle.arz_json.specs.declared.tree.Json.TheFolds.{para-Json}
 use Rattle.arz_json.specs.declared.tree.Member.{Member}
-use Rattle.arz_path.specs.declared.place.Token.{Token}
-use Rattle.arz_path.specs.declared.place.Token.TheVariants.{Name, Index}
+use Rattle.arz_json.specs.declared.place.Token.{Token}
+use Rattle.arz_json.specs.declared.place.Token.TheVariants.{Name, Index}
 
 -- a place in a tree, and what stands there
 abbrev pub Node : Type 0

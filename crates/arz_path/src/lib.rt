@@ -2,17 +2,18 @@
 #![tactic(auto)]
 
 mod evaluate;
+mod fault;
 mod finding;
 pub mod laws;
 mod nodes;
 mod pick;
-mod place;
 mod push;
 mod search;
 mod selecting;
 mod values;
 
+pub use arz_json::{Place, Token};
 pub use arz_query::{PathFault, Query};
+pub use fault::SelectFault;
 pub use finding::found;
-pub use place::{Place, SelectFault, Token};
 pub use selecting::{any, select};

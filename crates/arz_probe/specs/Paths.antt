@@ -1,8 +1,8 @@
 -- Normalized paths (RFC 9535, section 2.7).
 use Rattle.std.specs.Prelude.{ℕ, ◌+◌, ◌/◌, ◌%◌, ◌==◌, nat_lt, List, [], ◌∷◌, ◌++◌, codes, decimal, if◌then◌else◌}
 use Rattle.std.specs.List.{flat_map}
-use Rattle.arz_path.specs.declared.place.Token.{Token}
-use Rattle.arz_path.specs.declared.place.Token.TheVariants.{Name, Index}
+use Rattle.arz_json.specs.declared.place.Token.{Token}
+use Rattle.arz_json.specs.declared.place.Token.TheVariants.{Name, Index}
 
 -- normal-HEXDIG: a digit, or a letter in lower case
 abbrev pub hex_digit : ℕ → ℕ

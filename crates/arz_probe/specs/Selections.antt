@@ -8,7 +8,7 @@ use Rattle.arz_query.specs.Answers.{Spells, Faults}
 use Rattle.arz_query.specs.declared.fault.PathFault.{PathFault}
 use Rattle.arz_query.specs.declared.fault.PathFault.TheVariants.{Syntax, IllTyped, Fraction, IntegerRange, TooNested, Memory}
 use Rattle.arz_query.specs.declared.query.Segment.{Segment}
-use Rattle.arz_path.specs.declared.place.Token.{Token}
+use Rattle.arz_json.specs.declared.place.Token.{Token}
 use Rattle.arz_path.specs.Outcome.{Outcome, given, wide, untold, Covers}
 use Rattle.arz_path.specs.Selected.{places}
 use Rattle.arz_path.specs.Results.{setting_of}

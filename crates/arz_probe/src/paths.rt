@@ -2,7 +2,7 @@
 
 ghost use Rattle.std.specs.Prelude.{◌≡◌, ◌++◌, ◌<◌, ◌/◌, ◌%◌, ◌∷◌, [], codes, OnOk};
 ghost use Rattle.std.specs.List.{flat_map};
-ghost use Rattle.arz_path.specs.declared.place.Token.TheVariants.{Name, Index};
+ghost use Rattle.arz_json.specs.declared.place.Token.TheVariants.{Name, Index};
 ghost use Rattle.arz_probe.specs.Paths.{hex_digit as hex_digit_of, quoted_byte, step_text, normalized};
 
 use arz_path::{Place, Token};

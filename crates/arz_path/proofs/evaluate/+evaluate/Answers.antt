@@ -1,4 +1,4 @@
-use Rattle.std.proofs.Common.{pos, Bor, arith, ◌≡◌, [], ◌∷◌, ◌+◌, map, drop, ℕ, List, Bool, true, false, not, nat_lt, Option, Some, refl, sym, ap, subst, ◌∙◌}
+use Rattle.std.proofs.Common.{pos, Bor, arith, ◌≡◌, [], ◌∷◌, ◌+◌, map, drop, ℕ, List, true, false, not, nat_lt, Option, Some, refl, sym, ap, subst, ◌∙◌}
 use Rattle.std.proofs.lemmas.Grind.{common_steps}
 use Rattle.std.specs.List.{list_any, list_all, flat_map}
 use Rattle.std.specs.Option.{option_copied}
