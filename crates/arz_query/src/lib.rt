@@ -19,6 +19,7 @@ mod words;
 
 pub use fault::PathFault;
 pub use nesting::MAX_OPEN;
+pub use pieces::{Flaw, FlawKind, Marks};
 pub use query::{Comparison, Operand, Segment, Selector, Slice, Start, Test};
 pub use spelled::Query;
 pub use text::Text;

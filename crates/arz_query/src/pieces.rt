@@ -7,24 +7,30 @@ use std::alloc::AllocError;
 
 /// Which flaw a text of the grammar has.
 #[derive(Clone, Copy, Debug, PartialEq, Eq)]
-pub(crate) enum FlawKind {
+pub enum FlawKind {
+    /// A part isn't well-typed (RFC 9535, section 2.4.3).
     IllTyped,
+    /// A number has a fraction or an exponent.
     Fraction,
+    /// A number is past its range.
     IntegerRange,
 }
 
-/// A flaw, and how many bytes are left where it begins.
+/// A flaw of a text of the grammar, for contracts.
 #[derive(Clone, Copy, Debug, PartialEq, Eq)]
-pub(crate) struct Flaw {
+pub struct Flaw {
+    /// Which one.
     pub kind: FlawKind,
+    /// How many bytes of the text are left where it begins.
     pub left: usize,
 }
 
-/// What is to be told of a part: its first flaw, and whether each part of it may stand in a singular
-/// query (RFC 9535, section 2.3.5.1).
+/// What is to be told of a part of a text, for contracts.
 #[derive(Clone, Copy, Debug, PartialEq, Eq)]
-pub(crate) struct Marks {
+pub struct Marks {
+    /// The flaw with the least offset.
     pub flaw: Option<Flaw>,
+    /// Whether each part of it may stand in a singular query (RFC 9535, section 2.3.5.1).
     pub single: bool,
 }
 
