@@ -1,18 +1,9 @@
 -- Chains of tests.
 use Rattle.std.proofs.Common.{◌≡◌, ℕ, List, length, Some, None, option_and_then, ap}
-use Rattle.arz_query.specs.Words.{Read, Reader, with_value}
+use Rattle.arz_query.specs.Words.{Read, Reader}
 use Rattle.arz_query.specs.Typing.{as_test}
 use Rattle.arz_query.specs.Reading.{tested}
-use Rattle.arz_query.specs.declared.query.Test.{Test}
-use Rattle.arz_query.specs.declared.query.Test.TheVariants.{Any, All}
 use Rattle.arz_query.specs.declared.terms.Term.{Term}
-use Rattle.arz_query.specs.declared.terms.Term.TheVariants as term
-
-abbrev pub anys : Read (List Test) → Read Term
-anys = with_value (λ ts. term.Logical (Any ts))
-
-abbrev pub alls : Read (List Test) → Read Term
-alls = with_value (λ ts. term.Logical (All ts))
 
 pub tested_none : (reader : Reader Term) (s : List ℕ) → reader s ≡ None → tested reader s ≡ None
 unfolding tested

@@ -1,6 +1,6 @@
 -- Reading a list, an item at a time.
 use Rattle.std.proofs.Common.{◌≡◌, ℕ, suc, ◌<◌, ◌+◌, ◌-◌, List, [], ◌∷◌, ◌++◌, ◌&&◌, Bool, true, false, Option, Some, None, option_map, option_and_then, refl, sym, ap, ap₂, ◌∙◌, append_assoc, append-nil, arith, nat_lt, cond}
-use Rattle.arz_query.specs.Words.{Read, Reader, first_flaw, fine, joined, chosen, with_front, no_more, more_at}
+use Rattle.arz_query.specs.Words.{Read, Reader, first_flaw, fine, joined, chosen, with_front, with_item, no_more, more_at}
 use Rattle.arz_query.specs.Reading.{expr_at, any_of}
 use Rattle.arz_query.specs.declared.pieces.Flaw.{Flaw}
 use Rattle.arz_query.specs.declared.pieces.Marks.{Marks}
@@ -83,31 +83,33 @@ pub behind_front : {V : Type 0} (front : List V) (marks : Marks) (v : V) (other 
     with_front front marks (with_front (v ∷ []) other more) ≡ with_front (front ++ v ∷ []) (joined marks other) more
 behind_front {V} front marks v other more = ap₂ (λ (vs : List V) (m : Marks). let r : Read (List V) = record { value = vs; marks = m; rest = more.rest } in r) (sym (append_assoc front (v ∷ []) more.value)) (joined-assoc marks other more.marks)
 
--- f of what was read so far and the rest, where nothing more is read
-pub list_none : {V W : Type 0} (f : Read (List V) → W) (m : ℕ) (separator : List ℕ → Option (List ℕ)) (item : Reader V) (s : List ℕ) (front : List V) (marks : Marks) → m ≡ 0 →
-    option_map (λ more. f (with_front front marks more)) (more_at m separator item s) ≡ Some (f (record { value = front; marks = marks; rest = s }))
-list_none {V} {W} f m separator item s front marks e =
-    ap (option_map (λ more. f (with_front front marks more))) (none_left m separator item s e) ∙ ap (λ (r : Read (List V)). Some (f r)) (nothing_more front marks s)
+-- f of a list that goes on where all was read
+abbrev pub goes_on : {V W : Type 0} → (Read (List V) → W) → ℕ → (List ℕ → Option (List ℕ)) → Reader V → Read (List V) → Option W
+goes_on f n separator item all = option_map (λ more. f (with_front all.value all.marks more)) (more_at n separator item all.rest)
 
-pub list_stops : {V W : Type 0} (f : Read (List V) → W) (n k : ℕ) (separator : List ℕ → Option (List ℕ)) (item : Reader V) (s : List ℕ) (front : List V) (marks : Marks) → k < n → separator s ≡ None →
-    option_map (λ more. f (with_front front marks more)) (more_at (n - k) separator item s) ≡ Some (f (record { value = front; marks = marks; rest = s }))
-list_stops {V} {W} f n k separator item s front marks h e =
-    ap (option_map (λ more. f (with_front front marks more))) (turn (n - k) (n - (k + 1)) separator item s (omega arith) ∙ ap (turned (n - (k + 1)) separator item s) e)
-    ∙ ap (λ (r : Read (List V)). Some (f r)) (nothing_more front marks s)
+pub list_none : {V W : Type 0} (f : Read (List V) → W) (m : ℕ) (separator : List ℕ → Option (List ℕ)) (item : Reader V) (all : Read (List V)) → m ≡ 0 →
+    goes_on f m separator item all ≡ Some (f all)
+list_none {V} {W} f m separator item all e =
+    ap (option_map (λ more. f (with_front all.value all.marks more))) (none_left m separator item all.rest e) ∙ ap (λ (r : Read (List V)). Some (f r)) (nothing_more all.value all.marks all.rest)
 
-pub list_fails : {V W : Type 0} (f : Read (List V) → W) (n k : ℕ) (separator : List ℕ → Option (List ℕ)) (item : Reader V) (s t : List ℕ) (front : List V) (marks : Marks) → k < n → separator s ≡ Some t → item t ≡ None →
-    option_map (λ more. f (with_front front marks more)) (more_at (n - k) separator item s) ≡ None
-list_fails f n k separator item s t front marks h e g =
-    ap (option_map (λ more. f (with_front front marks more))) (turn (n - k) (n - (k + 1)) separator item s (omega arith) ∙ ap (turned (n - (k + 1)) separator item s) e ∙ ap (option_and_then (taken (n - (k + 1)) separator item)) g)
+pub list_stops : {V W : Type 0} (f : Read (List V) → W) (n k : ℕ) (separator : List ℕ → Option (List ℕ)) (item : Reader V) (all : Read (List V)) → k < n → separator all.rest ≡ None →
+    goes_on f (n - k) separator item all ≡ Some (f all)
+list_stops {V} {W} f n k separator item all h e =
+    ap (option_map (λ more. f (with_front all.value all.marks more))) (turn (n - k) (n - (k + 1)) separator item all.rest (omega arith) ∙ ap (turned (n - (k + 1)) separator item all.rest) e)
+    ∙ ap (λ (r : Read (List V)). Some (f r)) (nothing_more all.value all.marks all.rest)
 
-pub list_takes : {V W : Type 0} (f : Read (List V) → W) (n k : ℕ) (separator : List ℕ → Option (List ℕ)) (item : Reader V) (s t : List ℕ) (front : List V) (marks : Marks) (one : Read V) → k < n → separator s ≡ Some t → item t ≡ Some one →
-    option_map (λ more. f (with_front front marks more)) (more_at (n - k) separator item s)
-    ≡ option_map (λ more. f (with_front (front ++ one.value ∷ []) (joined marks one.marks) more)) (more_at (n - (k + 1)) separator item one.rest)
-list_takes {V} {W} f n k separator item s t front marks one h e g =
-    ap (option_map (λ more. f (with_front front marks more))) (turn (n - k) (n - (k + 1)) separator item s (omega arith) ∙ ap (turned (n - (k + 1)) separator item s) e ∙ ap (option_and_then (taken (n - (k + 1)) separator item)) g)
-    ∙ fronts (more_at (n - (k + 1)) separator item one.rest)
+pub list_fails : {V W : Type 0} (f : Read (List V) → W) (n k : ℕ) (separator : List ℕ → Option (List ℕ)) (item : Reader V) (all : Read (List V)) (t : List ℕ) → k < n → separator all.rest ≡ Some t → item t ≡ None →
+    goes_on f (n - k) separator item all ≡ None
+list_fails f n k separator item all t h e g =
+    ap (option_map (λ more. f (with_front all.value all.marks more))) (turn (n - k) (n - (k + 1)) separator item all.rest (omega arith) ∙ ap (turned (n - (k + 1)) separator item all.rest) e ∙ ap (option_and_then (taken (n - (k + 1)) separator item)) g)
+
+pub list_takes : {V W : Type 0} (f : Read (List V) → W) (n k : ℕ) (separator : List ℕ → Option (List ℕ)) (item : Reader V) (all : Read (List V)) (t : List ℕ) (one : Read V) (longer : Read (List V)) → k < n → separator all.rest ≡ Some t → item t ≡ Some one →
+    longer ≡ with_item all one → goes_on f (n - k) separator item all ≡ goes_on f (n - (k + 1)) separator item longer
+list_takes {V} {W} f n k separator item all t one longer h e g is =
+    ap (option_map (λ more. f (with_front all.value all.marks more))) (turn (n - k) (n - (k + 1)) separator item all.rest (omega arith) ∙ ap (turned (n - (k + 1)) separator item all.rest) e ∙ ap (option_and_then (taken (n - (k + 1)) separator item)) g)
+    ∙ fronts (more_at (n - (k + 1)) separator item one.rest) ∙ ap (goes_on f (n - (k + 1)) separator item) (sym is)
   where
-    fronts : (o : Option (Read (List V))) → option_map (λ more. f (with_front front marks more)) (option_map (with_front (one.value ∷ []) one.marks) o)
-        ≡ option_map (λ more. f (with_front (front ++ one.value ∷ []) (joined marks one.marks) more)) o
+    fronts : (o : Option (Read (List V))) → option_map (λ more. f (with_front all.value all.marks more)) (option_map (with_front (one.value ∷ []) one.marks) o)
+        ≡ option_map (λ more. f (with_front (all.value ++ one.value ∷ []) (joined all.marks one.marks) more)) o
     fronts None = refl
-    fronts (Some more) = ap (λ (r : Read (List V)). Some (f r)) (behind_front front marks one.value one.marks more)
+    fronts (Some more) = ap (λ (r : Read (List V)). Some (f r)) (behind_front all.value all.marks one.value one.marks more)

@@ -133,6 +133,9 @@ one_selector = with_value (λ v. v ∷ [])
 unfoldable pub shorthand_at : Reader (List Selector)
 shorthand_at s = chosen (after_byte 42 s) (λ t. Some (one_selector (wildcard t))) (option_map (λ n. one_selector (named n)) (name_at s))
 
+abbrev pub child : Read (List Selector) → Read Segment
+child = with_value Child
+
 abbrev pub descendant : Read (List Selector) → Read Segment
 descendant all = record { value = Descendant all.value; marks = plural all.marks; rest = all.rest }
 
@@ -142,12 +145,12 @@ descendant_of below s = option_map descendant (chosen (after_byte 91 s) (selecti
 
 -- what follows "."
 abbrev pub dotted_of : Reader Term → Reader Segment
-dotted_of below s = chosen (after_byte 46 s) (descendant_of below) (option_map (with_value Child) (shorthand_at s))
+dotted_of below s = chosen (after_byte 46 s) (descendant_of below) (option_map child (shorthand_at s))
 
 -- segment
 unfoldable pub segment_of : Reader Term → Reader Segment
 segment_of below s =
-    chosen (after_byte 91 s) (λ t. option_map (with_value Child) (selection_of below t))
+    chosen (after_byte 91 s) (λ t. option_map child (selection_of below t))
     (option_and_then (dotted_of below) (after_byte 46 s))
 
 abbrev pub begins_segment : ℕ → Bool
@@ -165,6 +168,14 @@ segments_of below s = more_at (length s) segment_start (segment_of below) s
 
 abbrev pub literal : operand.the_data → List ℕ → Read Term
 literal o s = record { value = term.Literal o; marks = fine; rest = s }
+
+-- string-literal, behind its first quote
+abbrev pub text_literal_at : ℕ → Reader Term
+text_literal_at quote s = option_map (λ t. literal (operand.Text t.0) t.1) (quoted_at quote s)
+
+-- number
+abbrev pub number_literal_at : Reader Term
+number_literal_at s = option_map (with_value (λ n. term.Literal (operand.Int n))) (literal_at s)
 
 abbrev pub nodes : Start → Read (List Segment) → Read Term
 nodes start all = record { value = term.Nodes start all.value all.marks.single; marks = all.marks; rest = all.rest }
@@ -200,9 +211,9 @@ term_of below [] = None
 term_of below (x ∷ xs) =
     if x == 36 then option_map (nodes Root) (segments_of below xs)
     else if x == 64 then option_map (nodes Current) (segments_of below xs)
-    else if x == 39 || x == 34 then option_map (λ t. literal (operand.Text t.0) t.1) (quoted_at x xs)
+    else if x == 39 || x == 34 then text_literal_at x xs
     else if is_ascii_lowercase x then word_of below (x ∷ xs)
-    else option_map (with_value (λ n. term.Literal (operand.Int n))) (literal_at (x ∷ xs))
+    else number_literal_at (x ∷ xs)
 
 -- comparison-op
 unfoldable pub comparison_at : List ℕ → Option (Comparison × List ℕ)
@@ -240,6 +251,10 @@ group_of below s = option_and_then closed (tested below (skip_blanks s))
 abbrev pub negated : Read Test → Read Term
 negated = with_value (λ t. term.Logical (Not t))
 
+-- as an expression
+abbrev pub logical : Read Test → Read Term
+logical = with_value term.Logical
+
 -- what follows "!" S
 unfoldable pub negated_of : Reader Term → Reader Term
 negated_of below s =
@@ -250,12 +265,16 @@ unfoldable pub item_of : Reader Term → Reader Term
 item_of below [] = None
 item_of below (x ∷ xs) =
     if x == 33 then negated_of below (skip_blanks xs)
-    else if x == 40 then option_map (with_value term.Logical) (group_of below xs)
+    else if x == 40 then option_map logical (group_of below xs)
     else compared_of below (x ∷ xs)
+
+-- tests that are one
+abbrev pub tests_as : (List Test → Test) → Read (List Test) → Read Term
+tests_as make = with_value (λ ts. term.Logical (make ts))
 
 abbrev pub chain_all : ℕ → (List Test → Test) → Reader Term → List ℕ → Read Test → Option (Read Term)
 chain_all mark make item s first =
-    option_map (λ more. with_value (λ ts. term.Logical (make ts)) (with_front (first.value ∷ []) first.marks more))
+    option_map (λ more. tests_as make (with_front (first.value ∷ []) first.marks more))
     (more_at (length s) (after_pair mark) (tested item) first.rest)
 
 abbrev pub chained : ℕ → (List Test → Test) → Reader Term → List ℕ → Read Term → Option (Read Term)

@@ -50,6 +50,14 @@ with_value made one = record { value = made one.value; marks = one.marks; rest =
 abbrev pub with_rest : {V : Type 0} → Read V → List ℕ → Read V
 with_rest one rest = record { value = one.value; marks = one.marks; rest = rest }
 
+-- a list of one item
+abbrev pub one_item : {V : Type 0} → Read V → Read (List V)
+one_item = with_value (λ v. v ∷ [])
+
+-- one item more, that was read where the list ended
+abbrev pub with_item : {V : Type 0} → Read (List V) → Read V → Read (List V)
+with_item all one = record { value = all.value ++ one.value ∷ []; marks = joined all.marks one.marks; rest = one.rest }
+
 -- behind what was read before
 abbrev pub with_front : {V : Type 0} → List V → Marks → Read (List V) → Read (List V)
 with_front front marks more = record { value = front ++ more.value; marks = joined marks more.marks; rest = more.rest }

@@ -3,10 +3,13 @@ ghost use Rattle.std.specs.Prelude.{◌≡◌, Some, option_map};
 ghost use Rattle.std.specs.Option.{option_copied};
 ghost use Rattle.arz_query.specs.Lexical.{is_next};
 ghost use Rattle.arz_query.specs.Words.{Gives, as_read};
-ghost use Rattle.arz_query.specs.Reading.{comparison_at, keyword_of, compared as compared_parts, negated, segment_start as start_of_segment, begins_segment, comma as comma_at, closed_by as closed_selection, literal as literal_term};
+ghost use Rattle.arz_query.specs.Reading.{comparison_at, keyword_of, compared as compared_parts, negated, segment_start as start_of_segment, begins_segment, comma as comma_at, closed_by as closed_selection, literal as literal_term, text_literal_at, number_literal_at, nodes as nodes_from, logical as logical_part, closed as closed_part, tests_as};
+ghost use Rattle.arz_query.specs.declared.query.Test.TheVariants.{Any, All};
 
+use crate::numbers::literal as number;
 use crate::pieces::{Marks, Part, ReadFault};
-use crate::query::{Comparison, Operand, Selector, Test};
+use crate::query::{Comparison, Operand, Segment, Selector, Start, Test};
+use crate::quoted::quoted;
 use crate::terms::{Term, ill_unless, is_value, operand};
 use crate::words::{Class, after, after_one, begins, without_blanks};
 use sqlite_items::{Boxed, Items};
@@ -64,6 +67,89 @@ pub(crate) fn keyword<'a>(word: &[u8], rest: &'a [u8]) -> Result<Part<'a, Term>,
         return Ok(literal(Operand::Null, rest));
     }
     Err(ReadFault::Syntax)
+}
+
+/// A literal in quotes, behind the first one.
+pub(crate) fn text_literal(
+    alloc: Global,
+    quote: u8,
+    text: &[u8],
+) -> Result<Part<'_, Term>, ReadFault>
+    ensures { Gives as_read result (text_literal_at quote text.now) }
+{
+    let (text, rest) = quoted(alloc, quote, text)?;
+    Ok(literal(Operand::Text(text), rest))
+}
+
+/// A literal that is a number.
+pub(crate) fn number_literal(text: &[u8]) -> Result<Part<'_, Term>, ReadFault>
+    ensures { Gives as_read result (number_literal_at text.now) }
+{
+    let Part { value, marks, rest } = number(text)?;
+    Ok(Part {
+        value: Term::Literal(Operand::Int(value)),
+        marks,
+        rest,
+    })
+}
+
+/// A query from its start.
+pub(crate) fn nodes(start: Start, segments: Part<'_, Items<Segment>>) -> Part<'_, Term>
+    ensures { as_read result ≡ nodes_from start (as_read segments.entry) }
+{
+    let Part { value, marks, rest } = segments;
+    Part {
+        value: Term::Nodes(start, value, marks.single),
+        marks,
+        rest,
+    }
+}
+
+/// A test as an expression.
+pub(crate) fn logical(test: Part<'_, Test>) -> Part<'_, Term>
+    ensures { as_read result ≡ logical_part (as_read test.entry) }
+{
+    let Part { value, marks, rest } = test;
+    Part {
+        value: Term::Logical(value),
+        marks,
+        rest,
+    }
+}
+
+/// Tests of which one is to hold, as an expression.
+pub(crate) fn any_of(tests: Part<'_, Items<Test>>) -> Part<'_, Term>
+    ensures { as_read result ≡ tests_as Any (as_read tests.entry) }
+{
+    let Part { value, marks, rest } = tests;
+    Part {
+        value: Term::Logical(Test::Any(value)),
+        marks,
+        rest,
+    }
+}
+
+/// Tests which are all to hold, as an expression.
+pub(crate) fn all_of(tests: Part<'_, Items<Test>>) -> Part<'_, Term>
+    ensures { as_read result ≡ tests_as All (as_read tests.entry) }
+{
+    let Part { value, marks, rest } = tests;
+    Part {
+        value: Term::Logical(Test::All(value)),
+        marks,
+        rest,
+    }
+}
+
+/// What stands in parentheses, with the last of them behind it.
+pub(crate) fn closed<T: Drop>(part: Part<'_, T>) -> Result<Part<'_, T>, ReadFault>
+    ensures { Gives as_read result (closed_part (as_read part.entry)) }
+{
+    let Part { value, marks, rest } = part;
+    let Some(rest) = after(without_blanks(rest), b')') else {
+        return Err(ReadFault::Syntax);
+    };
+    Ok(Part { value, marks, rest })
 }
 
 /// Two operands that begin where so many bytes are left, compared.
@@ -133,24 +219,24 @@ pub(crate) fn comma(text: &[u8]) -> Option<&[u8]>
     after_one(text, b',')
 }
 
-/// The selectors of a selection whose brackets hold that text.
+/// The selectors of a selection whose brackets hold that text, with what follows them.
 pub(crate) fn closed_by<'a>(
     text: &[u8],
-    selectors: Items<Selector>,
-    marks: Marks,
-    end: &[u8],
+    all: Part<'_, Items<Selector>>,
     rest: &'a [u8],
 ) -> Part<'a, Items<Selector>>
-    ensures { as_read result ≡ closed_selection text.now (record { value = selectors; marks = marks; rest = end.now }) rest.now }
+    ensures { as_read result ≡ closed_selection text.now (as_read all.entry) rest.now }
 {
+    let Part {
+        value,
+        marks: Marks { flaw, single },
+        rest: end,
+    } = all;
     let tight = !begins(Class::Blank, text) && !begins(Class::Blank, end);
-    let single = marks.single && selectors.len() == 1 && tight;
+    let single = single && value.len() == 1 && tight;
     Part {
-        value: selectors,
-        marks: Marks {
-            flaw: marks.flaw,
-            single,
-        },
+        value,
+        marks: Marks { flaw, single },
         rest,
     }
 }

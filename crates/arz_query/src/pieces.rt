@@ -1,9 +1,10 @@
 // What reading gives.
-ghost use Rattle.std.specs.Prelude.{◌≡◌};
-ghost use Rattle.arz_query.specs.Words.{first_flaw};
+ghost use Rattle.std.specs.Prelude.{◌≡◌, Some, OnOk};
+ghost use Rattle.arz_query.specs.Words.{Gives, as_read, first_flaw, one_item, with_item};
 ghost use Rattle.arz_query.specs.declared.pieces.ReadFault.TheVariants.{Memory};
 
-use std::alloc::AllocError;
+use sqlite_items::Items;
+use std::alloc::{AllocError, Global};
 
 /// Which flaw a text of the grammar has.
 #[derive(Clone, Copy, Debug, PartialEq, Eq)]
@@ -35,7 +36,7 @@ pub struct Marks {
 }
 
 /// What was read, what is to be told of it, and the rest.
-#[derive(Debug, Drop)]
+#[derive(Drop)]
 pub(crate) struct Part<'a, T> {
     pub value: T,
     pub marks: Marks,
@@ -43,7 +44,7 @@ pub(crate) struct Part<'a, T> {
 }
 
 /// Why nothing was read.
-#[derive(Clone, Copy, Debug, PartialEq, Eq)]
+#[derive(Clone, Copy)]
 pub(crate) enum ReadFault {
     Syntax,
     Memory,
@@ -115,4 +116,35 @@ impl Marks {
             single: false,
         }
     }
+}
+
+/// A list of the one item that was read.
+pub(crate) fn first_of<T: Drop>(
+    alloc: Global,
+    one: Part<'_, T>,
+) -> Result<Part<'_, Items<T>>, ReadFault>
+    ensures { Gives as_read result (Some (one_item (as_read one.entry))) }
+{
+    let Part { value, marks, rest } = one;
+    let mut items = Items::new(alloc);
+    items.push(value)?;
+    Ok(Part {
+        value: items,
+        marks,
+        rest,
+    })
+}
+
+/// One item more, which was read where the list ended.
+pub(crate) fn add<'a, T: Drop>(
+    all: &mut Part<'a, Items<T>>,
+    one: Part<'a, T>,
+) -> Result<(), AllocError>
+    ensures { OnOk result (as_read all.new ≡ with_item (as_read all.old) (as_read one.entry)) }
+{
+    let Part { value, marks, rest } = one;
+    all.value.push(value)?;
+    all.marks = all.marks.joined(marks);
+    all.rest = rest;
+    Ok(())
 }

@@ -1,18 +1,16 @@
 // Reading a query from the left. Functions of the cycle take `room`: how many expressions may stand
 // inside each other.
-ghost use Rattle.std.specs.Prelude.{◌≡◌};
 ghost use Rattle.arz_query.specs.Words.{Gives, as_read, items_at};
-ghost use Rattle.arz_query.specs.Reading.{expr_at, any_of, all_of, item_of, group_of, term_of, word_of, arguments_of, segments_of, segment_of, selection_of, selector_of, comma as comma_at};
+ghost use Rattle.arz_query.specs.Reading.{expr_at, any_of as any_of_at, all_of as all_of_at, item_of, negated_of, compared_of, group_of, term_of, word_of, arguments_of, segments_of, segment_of, selection_of, selector_of, comma as comma_at};
 
 use crate::expressions::{
-    closed_by, comma, compared, comparison, keyword, negation, segment_start,
+    all_of, any_of, closed, closed_by, comma, compared, comparison, keyword, logical, negation,
+    nodes, number_literal, segment_start, text_literal,
 };
-use crate::numbers::literal;
-use crate::pieces::{Marks, Part, ReadFault};
-use crate::query::{Operand, Segment, Selector, Start, Test};
-use crate::quoted::quoted;
-use crate::selectors::{numbered, shorthand};
-use crate::terms::{Term, call, ill_unless, test};
+use crate::pieces::{Marks, Part, ReadFault, add, first_of};
+use crate::query::{Segment, Selector, Start, Test};
+use crate::selectors::{child, descendant, filtered, named, numbered, shorthand, wildcard};
+use crate::terms::{Term, called, test};
 use crate::words::{Class, after, after_two, cut, without_blanks};
 use sqlite_items::Items;
 use std::alloc::Global;
@@ -31,75 +29,47 @@ fn expr<'a>(alloc: Global, text: &'a [u8], room: usize) -> Result<Part<'a, Term>
 #[cycle(read)]
 #[tactic(auto, unfolding(crate::specs::Reading::any_of))]
 fn any<'a>(alloc: Global, text: &'a [u8], room: usize) -> Result<Part<'a, Term>, ReadFault>
-    ensures { Gives as_read result (any_of (expr_at room) text.now) }
+    ensures { Gives as_read result (any_of_at (expr_at room) text.now) }
 {
     let one = all(alloc, text, room)?;
     if after_two(one.rest, b'|').is_none() {
         return Ok(one);
     }
-    let Part { value, marks, rest } = test(alloc, one, text.len())?;
-    let mut tests = Items::new(alloc);
-    tests.push(value)?;
-    let mut marks = marks;
-    let mut rest = rest;
+    let mut tests = first_of(alloc, test(alloc, one, text.len())?)?;
     for _ in 0..text.len() {
-        let Some(next) = after_two(rest, b'|') else {
-            return Ok(Part {
-                value: Term::Logical(Test::Any(tests)),
-                marks,
-                rest,
-            });
+        let Some(next) = after_two(tests.rest, b'|') else {
+            return Ok(any_of(tests));
         };
         let one = all(alloc, next, room)?;
         let other = test(alloc, one, next.len())?;
-        tests.push(other.value)?;
-        marks = marks.joined(other.marks);
-        rest = other.rest;
+        add(&mut tests, other)?;
     }
-    Ok(Part {
-        value: Term::Logical(Test::Any(tests)),
-        marks,
-        rest,
-    })
+    Ok(any_of(tests))
 }
 
 #[cycle(read)]
 #[tactic(auto, unfolding(crate::specs::Reading::all_of))]
 fn all<'a>(alloc: Global, text: &'a [u8], room: usize) -> Result<Part<'a, Term>, ReadFault>
-    ensures { Gives as_read result (all_of (expr_at room) text.now) }
+    ensures { Gives as_read result (all_of_at (expr_at room) text.now) }
 {
     let one = item(alloc, text, room)?;
     if after_two(one.rest, b'&').is_none() {
         return Ok(one);
     }
-    let Part { value, marks, rest } = test(alloc, one, text.len())?;
-    let mut tests = Items::new(alloc);
-    tests.push(value)?;
-    let mut marks = marks;
-    let mut rest = rest;
+    let mut tests = first_of(alloc, test(alloc, one, text.len())?)?;
     for _ in 0..text.len() {
-        let Some(next) = after_two(rest, b'&') else {
-            return Ok(Part {
-                value: Term::Logical(Test::All(tests)),
-                marks,
-                rest,
-            });
+        let Some(next) = after_two(tests.rest, b'&') else {
+            return Ok(all_of(tests));
         };
         let one = item(alloc, next, room)?;
         let other = test(alloc, one, next.len())?;
-        tests.push(other.value)?;
-        marks = marks.joined(other.marks);
-        rest = other.rest;
+        add(&mut tests, other)?;
     }
-    Ok(Part {
-        value: Term::Logical(Test::All(tests)),
-        marks,
-        rest,
-    })
+    Ok(all_of(tests))
 }
 
 #[cycle(read)]
-#[tactic(auto, unfolding(crate::specs::Reading::item_of, crate::specs::Reading::negated_of, crate::specs::Reading::compared_of, crate::specs::Reading::tested))]
+#[tactic(auto, unfolding(crate::specs::Reading::item_of))]
 fn item<'a>(alloc: Global, text: &'a [u8], room: usize) -> Result<Part<'a, Term>, ReadFault>
     ensures { Gives as_read result (item_of (expr_at room) text.now) }
 {
@@ -107,28 +77,43 @@ fn item<'a>(alloc: Global, text: &'a [u8], room: usize) -> Result<Part<'a, Term>
         return Err(ReadFault::Syntax);
     };
     if *first == b'!' {
-        let rest = without_blanks(rest);
-        if let Some(inside) = after(rest, b'(') {
-            return negation(alloc, group(alloc, inside, room)?);
-        }
-        let one = term(alloc, rest, room)?;
-        return negation(alloc, test(alloc, one, rest.len())?);
+        return negated(alloc, without_blanks(rest), room);
     }
     if *first == b'(' {
-        let Part { value, marks, rest } = group(alloc, rest, room)?;
-        return Ok(Part {
-            value: Term::Logical(value),
-            marks,
-            rest,
-        });
+        return Ok(logical(group(alloc, rest, room)?));
+    }
+    compared_or_alone(alloc, text, room)
+}
+
+// What follows `!` and the blanks behind it.
+#[cycle(read)]
+#[tactic(auto, unfolding(crate::specs::Reading::negated_of, crate::specs::Reading::tested))]
+fn negated<'a>(alloc: Global, text: &'a [u8], room: usize) -> Result<Part<'a, Term>, ReadFault>
+    ensures { Gives as_read result (negated_of (expr_at room) text.now) }
+{
+    if let Some(inside) = after(text, b'(') {
+        return negation(alloc, group(alloc, inside, room)?);
     }
     let one = term(alloc, text, room)?;
-    let Some((by, rest)) = comparison(without_blanks(one.rest)) else {
-        return Ok(one);
+    negation(alloc, test(alloc, one, text.len())?)
+}
+
+#[cycle(read)]
+#[tactic(auto, unfolding(crate::specs::Reading::compared_of))]
+fn compared_or_alone<'a>(
+    alloc: Global,
+    text: &'a [u8],
+    room: usize,
+) -> Result<Part<'a, Term>, ReadFault>
+    ensures { Gives as_read result (compared_of (expr_at room) text.now) }
+{
+    let first = term(alloc, text, room)?;
+    let Some((by, rest)) = comparison(without_blanks(first.rest)) else {
+        return Ok(first);
     };
     let rest = without_blanks(rest);
-    let other = term(alloc, rest, room)?;
-    Ok(compared(text.len(), one, by, rest.len(), other))
+    let second = term(alloc, rest, room)?;
+    Ok(compared(text.len(), first, by, rest.len(), second))
 }
 
 // An expression that is a test, and the parenthesis behind it.
@@ -139,11 +124,7 @@ fn group<'a>(alloc: Global, text: &'a [u8], room: usize) -> Result<Part<'a, Test
 {
     let text = without_blanks(text);
     let one = expr(alloc, text, room)?;
-    let Part { value, marks, rest } = test(alloc, one, text.len())?;
-    let Some(rest) = after(without_blanks(rest), b')') else {
-        return Err(ReadFault::Syntax);
-    };
-    Ok(Part { value, marks, rest })
+    closed(test(alloc, one, text.len())?)
 }
 
 #[cycle(read)]
@@ -154,36 +135,19 @@ fn term<'a>(alloc: Global, text: &'a [u8], room: usize) -> Result<Part<'a, Term>
     let Some((first, rest)) = text.split_first() else {
         return Err(ReadFault::Syntax);
     };
-    if *first == b'$' || *first == b'@' {
-        let start = if *first == b'$' {
-            Start::Root
-        } else {
-            Start::Current
-        };
-        let Part { value, marks, rest } = segments(alloc, rest, room)?;
-        return Ok(Part {
-            value: Term::Nodes(start, value, marks.single),
-            marks,
-            rest,
-        });
+    if *first == b'$' {
+        return Ok(nodes(Start::Root, segments(alloc, rest, room)?));
+    }
+    if *first == b'@' {
+        return Ok(nodes(Start::Current, segments(alloc, rest, room)?));
     }
     if *first == b'\'' || *first == b'"' {
-        let (text, rest) = quoted(alloc, *first, rest)?;
-        return Ok(Part {
-            value: Term::Literal(Operand::Text(text)),
-            marks: Marks::fine(),
-            rest,
-        });
+        return text_literal(alloc, *first, rest);
     }
     if first.is_ascii_lowercase() {
         return word(alloc, text, room);
     }
-    let Part { value, marks, rest } = literal(text)?;
-    Ok(Part {
-        value: Term::Literal(Operand::Int(value)),
-        marks,
-        rest,
-    })
+    number_literal(text)
 }
 
 #[cycle(read)]
@@ -195,13 +159,7 @@ fn word<'a>(alloc: Global, text: &'a [u8], room: usize) -> Result<Part<'a, Term>
     let Some(inside) = after(rest, b'(') else {
         return keyword(name, rest);
     };
-    let Part { value, marks, rest } = arguments(alloc, inside, room)?;
-    let (value, fits) = call(alloc, name, value)?;
-    Ok(Part {
-        value,
-        marks: ill_unless(fits, text.len(), marks),
-        rest,
-    })
+    called(alloc, text.len(), name, arguments(alloc, inside, room)?)
 }
 
 #[cycle(read)]
@@ -221,11 +179,7 @@ fn arguments<'a>(
             rest,
         });
     }
-    let Part { value, marks, rest } = terms(alloc, text, room)?;
-    let Some(rest) = after(without_blanks(rest), b')') else {
-        return Err(ReadFault::Syntax);
-    };
-    Ok(Part { value, marks, rest })
+    closed(terms(alloc, text, room)?)
 }
 
 #[cycle(read)]
@@ -233,29 +187,15 @@ fn arguments<'a>(
 fn terms<'a>(alloc: Global, text: &'a [u8], room: usize) -> Result<Part<'a, Items<Term>>, ReadFault>
     ensures { Gives as_read result (items_at comma_at (expr_at room) text.now) }
 {
-    let one = expr(alloc, text, room)?;
-    let mut values = Items::new(alloc);
-    values.push(one.value)?;
-    let mut marks = one.marks;
-    let mut rest = one.rest;
+    let mut all = first_of(alloc, expr(alloc, text, room)?)?;
     for _ in 0..text.len() {
-        let Some(next) = comma(rest) else {
-            return Ok(Part {
-                value: values,
-                marks,
-                rest,
-            });
+        let Some(next) = comma(all.rest) else {
+            return Ok(all);
         };
         let other = expr(alloc, next, room)?;
-        values.push(other.value)?;
-        marks = marks.joined(other.marks);
-        rest = other.rest;
+        add(&mut all, other)?;
     }
-    Ok(Part {
-        value: values,
-        marks,
-        rest,
-    })
+    Ok(all)
 }
 
 /// The segments of a query (RFC 9535, section 2.1.1).
@@ -268,27 +208,19 @@ pub(crate) fn segments<'a>(
 ) -> Result<Part<'a, Items<Segment>>, ReadFault>
     ensures { Gives as_read result (segments_of (expr_at room) text.now) }
 {
-    let mut values = Items::new(alloc);
-    let mut marks = Marks::fine();
-    let mut rest = text;
+    let mut all = Part {
+        value: Items::new(alloc),
+        marks: Marks::fine(),
+        rest: text,
+    };
     for _ in 0..text.len() {
-        let Some(next) = segment_start(rest) else {
-            return Ok(Part {
-                value: values,
-                marks,
-                rest,
-            });
+        let Some(next) = segment_start(all.rest) else {
+            return Ok(all);
         };
         let other = segment(alloc, next, room)?;
-        values.push(other.value)?;
-        marks = marks.joined(other.marks);
-        rest = other.rest;
+        add(&mut all, other)?;
     }
-    Ok(Part {
-        value: values,
-        marks,
-        rest,
-    })
+    Ok(all)
 }
 
 #[cycle(read)]
@@ -297,33 +229,18 @@ fn segment<'a>(alloc: Global, text: &'a [u8], room: usize) -> Result<Part<'a, Se
     ensures { Gives as_read result (segment_of (expr_at room) text.now) }
 {
     if let Some(inside) = after(text, b'[') {
-        let Part { value, marks, rest } = selection(alloc, inside, room)?;
-        return Ok(Part {
-            value: Segment::Child(value),
-            marks,
-            rest,
-        });
+        return Ok(child(selection(alloc, inside, room)?));
     }
     let Some(text) = after(text, b'.') else {
         return Err(ReadFault::Syntax);
     };
     let Some(text) = after(text, b'.') else {
-        let Part { value, marks, rest } = shorthand(alloc, text)?;
-        return Ok(Part {
-            value: Segment::Child(value),
-            marks,
-            rest,
-        });
+        return Ok(child(shorthand(alloc, text)?));
     };
-    let Part { value, marks, rest } = match after(text, b'[') {
-        Some(inside) => selection(alloc, inside, room)?,
-        None => shorthand(alloc, text)?,
+    let Some(inside) = after(text, b'[') else {
+        return Ok(descendant(shorthand(alloc, text)?));
     };
-    Ok(Part {
-        value: Segment::Descendant(value),
-        marks: marks.plural(),
-        rest,
-    })
+    Ok(descendant(selection(alloc, inside, room)?))
 }
 
 #[cycle(read)]
@@ -335,11 +252,11 @@ fn selection<'a>(
 ) -> Result<Part<'a, Items<Selector>>, ReadFault>
     ensures { Gives as_read result (selection_of (expr_at room) text.now) }
 {
-    let Part { value, marks, rest } = selectors(alloc, without_blanks(text), room)?;
-    let Some(after) = after(without_blanks(rest), b']') else {
+    let all = selectors(alloc, without_blanks(text), room)?;
+    let Some(after) = after(without_blanks(all.rest), b']') else {
         return Err(ReadFault::Syntax);
     };
-    Ok(closed_by(text, value, marks, rest, after))
+    Ok(closed_by(text, all, after))
 }
 
 #[cycle(read)]
@@ -351,29 +268,15 @@ fn selectors<'a>(
 ) -> Result<Part<'a, Items<Selector>>, ReadFault>
     ensures { Gives as_read result (items_at comma_at (selector_of (expr_at room)) text.now) }
 {
-    let one = selector(alloc, text, room)?;
-    let mut values = Items::new(alloc);
-    values.push(one.value)?;
-    let mut marks = one.marks;
-    let mut rest = one.rest;
+    let mut all = first_of(alloc, selector(alloc, text, room)?)?;
     for _ in 0..text.len() {
-        let Some(next) = comma(rest) else {
-            return Ok(Part {
-                value: values,
-                marks,
-                rest,
-            });
+        let Some(next) = comma(all.rest) else {
+            return Ok(all);
         };
         let other = selector(alloc, next, room)?;
-        values.push(other.value)?;
-        marks = marks.joined(other.marks);
-        rest = other.rest;
+        add(&mut all, other)?;
     }
-    Ok(Part {
-        value: values,
-        marks,
-        rest,
-    })
+    Ok(all)
 }
 
 #[cycle(read)]
@@ -385,29 +288,15 @@ fn selector<'a>(alloc: Global, text: &'a [u8], room: usize) -> Result<Part<'a, S
         return Err(ReadFault::Syntax);
     };
     if *first == b'\'' || *first == b'"' {
-        let (name, rest) = quoted(alloc, *first, rest)?;
-        return Ok(Part {
-            value: Selector::Name(name),
-            marks: Marks::fine(),
-            rest,
-        });
+        return named(alloc, *first, rest);
     }
     if *first == b'*' {
-        return Ok(Part {
-            value: Selector::Wildcard,
-            marks: Marks::fine().plural(),
-            rest,
-        });
+        return Ok(wildcard(rest));
     }
     if *first == b'?' {
         let text = without_blanks(rest);
         let one = expr(alloc, text, room)?;
-        let Part { value, marks, rest } = test(alloc, one, text.len())?;
-        return Ok(Part {
-            value: Selector::Filter(value),
-            marks: marks.plural(),
-            rest,
-        });
+        return Ok(filtered(test(alloc, one, text.len())?));
     }
     numbered(text)
 }

@@ -1,12 +1,14 @@
 // Selectors and short segments that hold no expression (RFC 9535, sections 2.3.1 to 2.3.4 and 2.5).
-ghost use Rattle.std.specs.Prelude.{◌≡◌, pos, unwrap_or};
+ghost use Rattle.std.specs.Prelude.{◌≡◌, pos, unwrap_or, option_map};
 ghost use Rattle.arz_query.specs.Words.{Gives, as_read};
-ghost use Rattle.arz_query.specs.Lexical.{is_next};
-ghost use Rattle.arz_query.specs.Reading.{begins_int, bound_at, slice_of as slice_parts, no_bound as no_bound_at, some_bound as some_bound_of, step_at as step_in, slice_begun, numbered_at, shorthand_at};
+ghost use Rattle.arz_query.specs.Lexical.{is_next, quoted_at};
+ghost use Rattle.arz_query.specs.Reading.{begins_int, bound_at, slice_of as slice_parts, no_bound as no_bound_at, some_bound as some_bound_of, step_at as step_in, slice_begun, numbered_at, shorthand_at, named as named_part, wildcard as wildcard_part, filtered as filtered_part, child as child_part, descendant as descendant_part};
 
 use crate::numbers::index;
-use crate::pieces::{Marks, Part, ReadFault};
-use crate::query::{Selector, Slice};
+use crate::pieces::{Marks, Part, ReadFault, first_of};
+use crate::query::{Segment, Selector, Slice, Test};
+use crate::quoted::quoted;
+use crate::text::Text;
 use crate::words::{after, name, without_blanks};
 use sqlite_items::Items;
 use std::alloc::Global;
@@ -135,25 +137,79 @@ pub(crate) fn numbered(text: &[u8]) -> Result<Part<'_, Selector>, ReadFault>
     begun(no_bound(text), rest)
 }
 
+/// A wildcard, and what follows it.
+pub(crate) fn wildcard(rest: &[u8]) -> Part<'_, Selector>
+    ensures { as_read result ≡ wildcard_part rest.now }
+{
+    Part {
+        value: Selector::Wildcard,
+        marks: Marks::fine().plural(),
+        rest,
+    }
+}
+
+fn of_name(name: Text, rest: &[u8]) -> Part<'_, Selector>
+    ensures { as_read result ≡ named_part (name, rest.now) }
+{
+    Part {
+        value: Selector::Name(name),
+        marks: Marks::fine(),
+        rest,
+    }
+}
+
+/// A name in quotes, behind the first one.
+pub(crate) fn named(alloc: Global, quote: u8, text: &[u8]) -> Result<Part<'_, Selector>, ReadFault>
+    ensures { Gives as_read result (option_map named_part (quoted_at quote text.now)) }
+{
+    let (name, rest) = quoted(alloc, quote, text)?;
+    Ok(of_name(name, rest))
+}
+
+/// A filter of that test.
+pub(crate) fn filtered(test: Part<'_, Test>) -> Part<'_, Selector>
+    ensures { as_read result ≡ filtered_part (as_read test.entry) }
+{
+    let Part { value, marks, rest } = test;
+    Part {
+        value: Selector::Filter(value),
+        marks: marks.plural(),
+        rest,
+    }
+}
+
 /// A wildcard or a name without quotes, as selectors.
 #[tactic(auto, unfolding(crate::specs::Reading::shorthand_at))]
 pub(crate) fn shorthand(alloc: Global, text: &[u8]) -> Result<Part<'_, Items<Selector>>, ReadFault>
     ensures { Gives as_read result (shorthand_at text.now) }
 {
-    let mut selectors = Items::new(alloc);
     if let Some(rest) = after(text, b'*') {
-        selectors.push(Selector::Wildcard)?;
-        return Ok(Part {
-            value: selectors,
-            marks: Marks::fine().plural(),
-            rest,
-        });
+        return first_of(alloc, wildcard(rest));
     }
     let (name, rest) = name(alloc, text)?;
-    selectors.push(Selector::Name(name))?;
-    Ok(Part {
-        value: selectors,
-        marks: Marks::fine(),
+    first_of(alloc, of_name(name, rest))
+}
+
+/// A segment among the children.
+pub(crate) fn child(selectors: Part<'_, Items<Selector>>) -> Part<'_, Segment>
+    ensures { as_read result ≡ child_part (as_read selectors.entry) }
+{
+    let Part { value, marks, rest } = selectors;
+    Part {
+        value: Segment::Child(value),
+        marks,
         rest,
-    })
+    }
+}
+
+/// A segment among the children of all descendants.
+pub(crate) fn descendant(selectors: Part<'_, Items<Selector>>) -> Part<'_, Segment>
+    ensures { as_read result ≡ descendant_part (as_read selectors.entry) }
+{
+    let Part { value, marks, rest } = selectors;
+    Part {
+        value: Segment::Descendant(value),
+        marks: marks.plural(),
+        rest,
+    }
 }

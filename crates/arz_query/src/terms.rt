@@ -2,6 +2,7 @@
 ghost use Rattle.std.specs.Prelude.{◌≡◌, Some};
 ghost use Rattle.arz_query.specs.Words.{Gives, as_read};
 ghost use Rattle.arz_query.specs.Typing.{ill_unless as ill_marks, operand_of, is_value as has_value, test_of, is_test as may_be_test, as_test, no_value as no_value_call, no_test as no_test_call, only_of, pair_of, length_of, count_of, value_of, match_of, search_of, call_of};
+ghost use Rattle.arz_query.specs.Reading.{called as called_with};
 
 use crate::pieces::{FlawKind, Marks, Part, ReadFault};
 use crate::query::{Operand, Segment, Start, Test};
@@ -9,7 +10,7 @@ use sqlite_items::{Boxed, Items};
 use std::alloc::Global;
 
 /// An expression, before it is known where it stands. A query has besides whether it is singular.
-#[derive(Debug, Drop)]
+#[derive(Drop)]
 pub(crate) enum Term {
     Literal(Operand),
     Value(Operand),
@@ -88,17 +89,22 @@ pub(crate) fn test(
 fn only(terms: Items<Term>) -> Option<Term>
     ensures { result ≡ only_of terms }
 {
+    if terms.len() != 1 {
+        return None;
+    }
     let mut terms = terms;
-    let last = terms.pop()?;
-    if terms.is_empty() { Some(last) } else { None }
+    terms.pop()
 }
 
 fn pair(terms: Items<Term>) -> Option<(Term, Term)>
     ensures { result ≡ pair_of terms }
 {
+    if terms.len() != 2 {
+        return None;
+    }
     let mut terms = terms;
     let second = terms.pop()?;
-    let first = only(terms)?;
+    let first = terms.pop()?;
     Some((first, second))
 }
 
@@ -199,4 +205,22 @@ pub(crate) fn call(alloc: Global, name: &[u8], args: Items<Term>) -> Result<(Ter
         };
     }
     Ok(no_test(alloc))
+}
+
+/// The call of a function whose name begins where so many bytes are left.
+pub(crate) fn called<'a>(
+    alloc: Global,
+    left: usize,
+    name: &[u8],
+    args: Part<'a, Items<Term>>,
+) -> Result<Part<'a, Term>, ReadFault>
+    ensures { Gives as_read result (Some (called_with left name.now (as_read args.entry))) }
+{
+    let Part { value, marks, rest } = args;
+    let (value, fits) = call(alloc, name, value)?;
+    Ok(Part {
+        value,
+        marks: ill_unless(fits, left, marks),
+        rest,
+    })
 }
