@@ -8,6 +8,8 @@ use Rattle.arz_query.specs.declared.query.Operand.{Operand}
 use Rattle.arz_query.specs.declared.query.Operand.TheVariants as operand
 use Rattle.arz_query.specs.declared.query.Test.{Test}
 use Rattle.arz_query.specs.declared.query.Test.TheVariants.{Any, Exists, Match, Search}
+use Rattle.arz_query.specs.declared.query.Start.{Start}
+use Rattle.arz_query.specs.declared.query.Segment.{Segment}
 use Rattle.arz_query.specs.declared.terms.Term.{Term}
 use Rattle.arz_query.specs.declared.terms.Term.TheVariants as term
 
@@ -75,17 +77,18 @@ no_test = (term.Logical (Any []), false)
 abbrev pub length_of : Term → Call
 length_of a = (term.Value (operand.Length (operand_of a)), is_value a)
 
+-- the query, where it is one
+abbrev pub nodes_of : Term → Option (Start × List Segment)
+nodes_of (term.Nodes start segments single) = Some (start, segments)
+nodes_of (term.Literal o) = None
+nodes_of (term.Value o) = None
+nodes_of (term.Logical t) = None
+
 abbrev pub count_of : Term → Call
-count_of (term.Literal o) = no_value
-count_of (term.Value o) = no_value
-count_of (term.Nodes start segments single) = (term.Value (operand.Count start segments), true)
-count_of (term.Logical t) = no_value
+count_of a = chosen (nodes_of a) (λ q. (term.Value (operand.Count q.0 q.1), true)) no_value
 
 abbrev pub value_of : Term → Call
-value_of (term.Literal o) = no_value
-value_of (term.Value o) = no_value
-value_of (term.Nodes start segments single) = (term.Value (operand.Value start segments), true)
-value_of (term.Logical t) = no_value
+value_of a = chosen (nodes_of a) (λ q. (term.Value (operand.Value q.0 q.1), true)) no_value
 
 abbrev pub match_of : Term × Term → Call
 match_of p = (term.Logical (Match (operand_of p.0) (operand_of p.1)), is_value p.0 && is_value p.1)

@@ -1,7 +1,7 @@
 // What an expression may stand for (RFC 9535, section 2.4.3), and the calls of functions.
 ghost use Rattle.std.specs.Prelude.{◌≡◌, Some};
 ghost use Rattle.arz_query.specs.Words.{Gives, as_read};
-ghost use Rattle.arz_query.specs.Typing.{ill_unless as ill_marks, operand_of, is_value as has_value, test_of, is_test as may_be_test, as_test, no_value as no_value_call, no_test as no_test_call, only_of, pair_of, length_of, count_of, value_of, match_of, search_of, call_of};
+ghost use Rattle.arz_query.specs.Typing.{ill_unless as ill_marks, operand_of, is_value as has_value, test_of, is_test as may_be_test, as_test, no_value as no_value_call, no_test as no_test_call, only_of, pair_of, nodes_of, length_of, count_of, value_of, match_of, search_of, call_of};
 ghost use Rattle.arz_query.specs.Reading.{called as called_with};
 
 use crate::pieces::{FlawKind, Marks, Part, ReadFault};
@@ -103,8 +103,8 @@ fn pair(terms: Items<Term>) -> Option<(Term, Term)>
         return None;
     }
     let mut terms = terms;
-    let second = terms.pop()?;
-    let first = terms.pop()?;
+    let second = terms.remove(1);
+    let first = terms.remove(0);
     Some((first, second))
 }
 
@@ -129,21 +129,31 @@ fn length_call(alloc: Global, term: Term) -> Result<(Term, bool), ReadFault>
     Ok((Term::Value(Operand::Length(operand)), fits))
 }
 
+/// The query, where the expression is one.
+fn nodes_in(term: Term) -> Option<(Start, Items<Segment>)>
+    ensures { result ≡ nodes_of term }
+{
+    match term {
+        Term::Nodes(start, segments, _) => Some((start, segments)),
+        _ => None,
+    }
+}
+
 fn count_call(term: Term) -> (Term, bool)
     ensures { result ≡ count_of term }
 {
-    match term {
-        Term::Nodes(start, segments, _) => (Term::Value(Operand::Count(start, segments)), true),
-        Term::Literal(_) | Term::Value(_) | Term::Logical(_) => no_value(),
+    match nodes_in(term) {
+        Some((start, segments)) => (Term::Value(Operand::Count(start, segments)), true),
+        None => no_value(),
     }
 }
 
 fn value_call(term: Term) -> (Term, bool)
     ensures { result ≡ value_of term }
 {
-    match term {
-        Term::Nodes(start, segments, _) => (Term::Value(Operand::Value(start, segments)), true),
-        Term::Literal(_) | Term::Value(_) | Term::Logical(_) => no_value(),
+    match nodes_in(term) {
+        Some((start, segments)) => (Term::Value(Operand::Value(start, segments)), true),
+        None => no_value(),
     }
 }
 
