@@ -1,8 +1,10 @@
 -- The pieces of a text, cut by cut.
-use Rattle.std.proofs.Common.{◌≡◌, ◌≢◌, inl, inr, ℕ, suc, ◌+◌, ◌<◌, ◌≤◌, List, [], ◌∷◌, ◌++◌, map, length, get_or, take, drop, Option, Some, None, option_map, option_and_then, MatchOption, Bor, refl, ap, sym, ◌∙◌, subst, arith, lit<, append_assoc, append-nil, length-append}
+use Rattle.std.proofs.Common.{◌≡◌, inl, inr, ℕ, ◌+◌, ◌<◌, ◌≤◌, List, [], ◌∷◌, ◌++◌, map, length, take, drop, Option, Some, None, option_map, option_and_then, MatchOption, Bor, refl, ap, sym, ◌∙◌, subst, arith, lit<, append_assoc, append-nil, length-append}
 use Rattle.std.specs.Str.Pattern.{RFindsChar}
 use Rattle.std.proofs.lemmas.Bool.{ne_eqb, eq-eqb, cases_eq}
 use Rattle.std.proofs.lemmas.Str.Pattern.{NoCharPasses-char, drop_at_char}
+use Rattle.serde_json.proofs.Paths.{Lacks}
+use Rattle.arz_json.proofs.Lacks.{lacks-rest, lacks-first}
 use Rattle.arz_expr.specs.Grammar.{printed}
 use Rattle.arz_expr.specs.Reading.{reading}
 use Rattle.arz_expr.specs.Filling.{Embedded, Byte, before_brace, braced, piece_of, others_of, pieces_after, pieces}
@@ -10,16 +12,6 @@ use Rattle.arz_expr.specs.Cuts.{OpensNone}
 use Rattle.arz_expr.specs.declared.syntax.Expr.{Expr}
 use Rattle.arz_expr.proofs.Runs.{take-drop}
 use Rattle.arz_expr.proofs.Plain.{reading-printed, reading-open}
-
--- none of the bytes is c
-abbrev pub Lacks : ℕ → List ℕ → Type 0
-Lacks c xs = (i : ℕ) → i < length xs → get_or xs i 0 ≢ c
-
-lacks-rest : (c x : ℕ) (xs : List ℕ) → Lacks c (x ∷ xs) → Lacks c xs
-lacks-rest c x xs lacks i lt = lacks (suc i) (omega arith)
-
-lacks-first : (c x : ℕ) (xs : List ℕ) → Lacks c (x ∷ xs) → x ≢ c
-lacks-first c x xs lacks = lacks 0 (omega arith)
 
 lacks-behind : (c : ℕ) (xs ys : List ℕ) → Lacks c (xs ++ ys) → Lacks c ys
 lacks-behind c [] ys lacks = lacks

@@ -12,7 +12,8 @@ use Rattle.arz_expr.specs.declared.syntax.Base.{Base}
 use Rattle.arz_expr.specs.declared.syntax.Expr.{Expr}
 use Rattle.arz_expr.proofs.Endings.{reading-complete}
 use Rattle.arz_expr.proofs.Plain.{is_other, IsPlain, plain-reads}
-use Rattle.arz_expr.proofs.Cutting.{Lacks, cut-embedded, pieces-all}
+use Rattle.serde_json.proofs.Paths.{Lacks}
+use Rattle.arz_expr.proofs.Cutting.{cut-embedded, pieces-all}
 use Rattle.arz_expr.proofs.Joins.{joined-append, joined-behind, joined-bytes}
 
 -- no byte is a `}`

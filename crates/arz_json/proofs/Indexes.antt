@@ -1,5 +1,5 @@
 -- An index of a list has one spelling.
-use Rattle.std.proofs.Common.{◌≡◌, ◌+◌, ◌-◌, ◌^◌, ◌<◌, ◌==◌, ◌&&◌, inl, inr, ℕ, Bool, true, false, not, cond, nat_lt, List, [], ◌++◌, length, get_or, drop, slice_range, Some, refl, sym, ap, ap₂, ◌∙◌, subst, arith, append-nil, length-take, length-drop}
+use Rattle.std.proofs.Common.{◌≡◌, ◌+◌, ◌-◌, ◌^◌, ◌<◌, ◌==◌, inl, inr, ℕ, Bool, true, false, cond, List, [], ◌++◌, length, get_or, drop, slice_range, Some, refl, sym, ap, ap₂, ◌∙◌, subst, arith, append-nil, length-take, length-drop}
 use Rattle.std.specs.Char.{is_ascii_digit}
 use Rattle.std.specs.Fmt.{decimal}
 use Rattle.std.specs.Str.Parse.{AllDigits, digits_value}

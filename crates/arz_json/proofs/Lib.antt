@@ -13,5 +13,6 @@ pub mod Puts
 pub mod Answer
 pub mod Splits
 pub mod Indexes
+pub mod Lacks
 pub mod Names
 pub mod Elsewhere

@@ -1,5 +1,5 @@
 -- A child has one token.
-use Rattle.std.proofs.Common.{◌≡◌, ◌≢◌, ◌<◌, ◌==◌, inl, inr, ℕ, zero, suc, Bool, true, false, cond, List, [], ◌∷◌, length, get_or, Option, Some, None, option_map, option_and_then, if◌then◌else◌, refl, sym, ap, ◌∙◌, arith, ne_eqb}
+use Rattle.std.proofs.Common.{◌≡◌, ◌≢◌, ◌==◌, inl, inr, ℕ, suc, Bool, true, false, cond, List, [], ◌∷◌, Option, Some, None, option_map, if◌then◌else◌, refl, sym, ap, ◌∙◌, arith, ne_eqb}
 use Rattle.std.specs.Str.{bytes_eq}
 use Rattle.std.proofs.lemmas.Bool.{cases_eq}
 use Rattle.std.proofs.lemmas.Option.{option_and_then_some}
@@ -12,6 +12,7 @@ use Rattle.arz_json.specs.declared.tree.Json.{Json}
 use Rattle.arz_json.specs.declared.tree.Json.TheOpen.{Json-F}
 use Rattle.arz_json.specs.declared.tree.Member.{Member}
 use Rattle.arz_json.proofs.Indexes.{index_spelt}
+use Rattle.arz_json.proofs.Lacks.{lacks-rest}
 use Rattle.arz_json.proofs.Pointers.{decoded_plain, decoded_bare, decoded_slash, decoded_tilde, decoded_other}
 
 mapped : {A B : Type 0} (f : A → B) (o : Option A) (b : B) → option_map f o ≡ Some b → (a : A) × (o ≡ Some a) × (f a ≡ b)
@@ -45,9 +46,6 @@ escaped y rest name more e =
       ]
     ]
 
-lacks-rest : (x : ℕ) (xs : List ℕ) → Lacks 47 (x ∷ xs) → Lacks 47 xs
-lacks-rest x xs lacks i lt = lacks (suc i) (omega arith)
-
 spelt : (token name : List ℕ) → Lacks 47 token → decoded token ≡ Some name → token ≡ token_of name
 unfolding decoded
 spelt [] name lacks e = ap token_of (Some_inj [] name e)
@@ -58,8 +56,8 @@ spelt (x ∷ []) name lacks e =
     ]
 spelt (x ∷ y ∷ rest) name lacks e =
     elim (cases_eq x 126) [
-      | inl tilde ↦ ap (λ z. z ∷ y ∷ rest) tilde ∙ escaped y rest name (λ n h. spelt rest n (lacks-rest y rest (lacks-rest x (y ∷ rest) lacks)) h) (ap (λ z. decoded (z ∷ y ∷ rest)) (sym tilde) ∙ e)
-      | inr other ↦ plain x (y ∷ rest) name other (lacks 0 (omega arith)) (λ n h. spelt (y ∷ rest) n (lacks-rest x (y ∷ rest) lacks) h) e
+      | inl tilde ↦ ap (λ z. z ∷ y ∷ rest) tilde ∙ escaped y rest name (λ n h. spelt rest n (lacks-rest 47 y rest (lacks-rest 47 x (y ∷ rest) lacks)) h) (ap (λ z. decoded (z ∷ y ∷ rest)) (sym tilde) ∙ e)
+      | inr other ↦ plain x (y ∷ rest) name other (lacks 0 (omega arith)) (λ n h. spelt (y ∷ rest) n (lacks-rest 47 x (y ∷ rest) lacks) h) e
     ]
 
 -- ---- a place has one name

@@ -1,22 +1,14 @@
 -- The parts of a path, cut by cut.
-use Rattle.std.proofs.Common.{◌≡◌, ◌≢◌, ℕ, suc, ◌+◌, ◌<◌, List, [], ◌∷◌, ◌++◌, map, length, get_or, Some, None, refl, ap, sym, ◌∙◌, arith, append_assoc, append-nil, length-append}
+use Rattle.std.proofs.Common.{◌≡◌, ◌≢◌, ℕ, ◌+◌, ◌<◌, List, [], ◌∷◌, ◌++◌, map, length, Some, None, refl, ap, sym, ◌∙◌, arith, append_assoc, append-nil, length-append}
 use Rattle.std.specs.List.{flat_map}
 use Rattle.std.proofs.lemmas.List.Concat.{flat_map-cons}
 use Rattle.std.proofs.lemmas.Bool.{ne_eqb}
 use Rattle.std.proofs.lemmas.Grind.{flat_map-append}
+use Rattle.serde_json.proofs.Paths.{Lacks}
+use Rattle.arz_json.proofs.Lacks.{lacks-rest, lacks-first}
 use Rattle.arz_flow.specs.Texts.{split_once}
 use Rattle.arz_flow.specs.Paths.{Part, Name, Byte, name_before, name_at, parts_after, parts}
 use Rattle.arz_flow.specs.Requests.{Given, expanded_part, expanded}
-
--- none of the bytes is c
-abbrev pub Lacks : ℕ → List ℕ → Type 0
-Lacks c xs = (i : ℕ) → i < length xs → get_or xs i 0 ≢ c
-
-lacks-rest : (c x : ℕ) (xs : List ℕ) → Lacks c (x ∷ xs) → Lacks c xs
-lacks-rest c x xs lacks i lt = lacks (suc i) (omega arith)
-
-lacks-first : (c x : ℕ) (xs : List ℕ) → Lacks c (x ∷ xs) → x ≢ c
-lacks-first c x xs lacks = lacks 0 (omega arith)
 
 plain-at : (b : ℕ) (rest : List ℕ) → b ≢ 123 → name_at (b ∷ rest) ≡ None
 plain-at b rest ne = rw (ne_eqb b 123 ne) refl
