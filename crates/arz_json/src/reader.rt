@@ -2,7 +2,7 @@ ghost use Rattle.std.specs.Prelude.{◌≡◌, ◌≢◌, ◌↔◌, ◌<◌, �
 ghost use Rattle.json.specs.Json.{value, items, members};
 ghost use Rattle.serde_json.specs.Data.{no_members};
 ghost use Rattle.serde_json.specs.Read.{of_json, of_items, of_members, converted, read as serde_reading};
-ghost use Rattle.arz_json.specs.Reading.{tree_of, trees_of, members_of, entries_tree, Gives, Reads};
+ghost use Rattle.arz_json.specs.Reading.{tree_of, trees_of, members_of, entries_tree, Takes, Reads};
 ghost use Rattle.arz_json.specs.Tree.{IsWithin, IsWellFormed};
 
 use crate::many::Many;
@@ -99,7 +99,7 @@ fn read_text(alloc: Global, text: &str) -> Result<Json, JsonFault>
 
 #[cycle(read)]
 fn read_tree(alloc: Global, reader: &mut Reader<'_>, depth: usize) -> Result<Json, JsonFault>
-    ensures ok { IfOk result (λ j. Gives tree_of (converted of_json (value depth reader.old)) j reader.new) }
+    ensures ok { IfOk result (λ j. Takes tree_of (converted of_json (value depth reader.old)) j reader.new) }
     ensures shorter { OnOk result (length reader.new < length reader.old) }
     ensures not_json { result ≡ Err JsonFault.NotJson → converted of_json (value depth reader.old) ≡ None }
     ensures not_too_large { result ≢ Err JsonFault.TooLarge }
@@ -131,7 +131,7 @@ fn read_tree(alloc: Global, reader: &mut Reader<'_>, depth: usize) -> Result<Jso
 
 #[cycle(read)]
 fn read_items(alloc: Global, reader: &mut Reader<'_>, depth: usize) -> Result<Many<Json>, JsonFault>
-    ensures ok { IfOk result (λ js. Gives trees_of (converted of_items (items (value depth) (length reader.old) reader.old)) js reader.new) }
+    ensures ok { IfOk result (λ js. Takes trees_of (converted of_items (items (value depth) (length reader.old) reader.old)) js reader.new) }
     ensures shorter { OnOk result (length reader.new < length reader.old) }
     ensures not_json { result ≡ Err JsonFault.NotJson
         → converted of_items (items (value depth) (length reader.old) reader.old) ≡ None }
@@ -147,7 +147,7 @@ fn read_items(alloc: Global, reader: &mut Reader<'_>, depth: usize) -> Result<Ma
 
 #[cycle(read)]
 fn read_members(alloc: Global, reader: &mut Reader<'_>, depth: usize) -> Result<Members, JsonFault>
-    ensures ok { IfOk result (λ ms. Gives members_of (converted (λ ms. of_members ms no_members) (members (value depth) (length reader.old) reader.old)) ms reader.new) }
+    ensures ok { IfOk result (λ ms. Takes members_of (converted (λ ms. of_members ms no_members) (members (value depth) (length reader.old) reader.old)) ms reader.new) }
     ensures shorter { OnOk result (length reader.new < length reader.old) }
     ensures not_json { result ≡ Err JsonFault.NotJson
         → converted (λ ms. of_members ms no_members) (members (value depth) (length reader.old) reader.old) ≡ None }
