@@ -25,7 +25,7 @@ pub use look::{into_value_named, items_at, members_at, text_at, value_named};
 pub use many::Many;
 pub use place::{Place, Token};
 pub use placing::{PutFault, is_deeper, put};
-pub use pointer::{array_index, at};
+pub use pointer::at;
 pub use reader::{JsonFault, read};
 pub use text::{Bytes, Text, split_once};
 pub use tree::{Json, Location, Member, Members, Named, Refusal, Style};

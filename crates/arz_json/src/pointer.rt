@@ -43,7 +43,7 @@ fn step<'a>(target: &'a Json, token: &str) -> Option<&'a Json>
 
 /// The number that a text spells as an index of a list: `0`, or digits without a leading zero, below
 /// 2^64 (RFC 6901, section 4). Every other text spells none.
-pub fn array_index(text: &str) -> Option<usize>
+pub(crate) fn array_index(text: &str) -> Option<usize>
     ensures { result ≡ index_of text.now }
 {
     let bytes = text.as_bytes();
@@ -73,7 +73,7 @@ fn find<'a>(members: &'a Members, token: &str) -> Option<&'a Json>
     None
 }
 
-pub fn decodes_to(token: &[u8], name: &[u8]) -> bool
+pub(crate) fn decodes_to(token: &[u8], name: &[u8]) -> bool
     ensures { IsTrue result ↔ (decoded token.now ≡ Some name.now) }
 {
     let mut at = 0;

@@ -3,8 +3,8 @@ use crate::case::Case;
 use crate::fault::CaseFault;
 use crate::outcome::{Outcome, brief, flag_word, text_of};
 use arz_json::{
-    Bytes, CompactFault, JsonFault, Many, PutFault, Text, array_index, at as value_at, compact,
-    copy, is_deeper, put as put_at, read, same as are_same,
+    Bytes, CompactFault, JsonFault, Many, PutFault, Text, at as value_at, compact, copy, is_deeper,
+    put as put_at, read, same as are_same,
 };
 use std::alloc::Global;
 
@@ -66,15 +66,6 @@ pub fn get(alloc: Global, case: &Case<'_>) -> Result<Outcome, CaseFault> {
     let tree = case.json(alloc, "document")?;
     match tree.get(case.word("member")) {
         Some(found) => Ok(Outcome::text(brief(alloc, found)?)),
-        None => Ok(Outcome::words(alloc, "none")?),
-    }
-}
-
-/// The index of a list that `text` spells.
-pub fn index(alloc: Global, case: &Case<'_>) -> Result<Outcome, CaseFault> {
-    let text = case.text(alloc, "text")?;
-    match array_index(text.as_str()) {
-        Some(index) => Ok(Outcome::text(format!(in alloc; "{index}")?)),
         None => Ok(Outcome::words(alloc, "none")?),
     }
 }
