@@ -1,20 +1,16 @@
 -- Why nothing is found, carried to the callers.
-use Rattle.std.proofs.Common.{◌≡◌, ℕ, ◌≤◌, List, Bool, Option, Result, Ok, Err, refl, sym, ap, subst, ◌∙◌, arith}
+use Rattle.std.proofs.Common.{◌≡◌, ℕ, ◌≤◌, List, Bool, true, false, Option, Result, Ok, Err, length, nat_lt, cond, refl, sym, ap, subst, ◌∙◌, arith}
 use Rattle.std.specs.Result.{IsErrAnd}
 use Rattle.arz_json.specs.declared.tree.Json.{Json}
-use Rattle.std.specs.declared.vec.Vec.{Vec}
-use Rattle.std.specs.declared.alloc.Global.{Global}
 use Rattle.arz_rx.specs.Patterns.{PatternsView, Rose, Told}
 use Rattle.arz_query.specs.declared.query.Operand.{Operand}
-use Rattle.arz_json.specs.declared.place.Token.{Token}
-use Rattle.arz_path.specs.declared.nodes.Branch.{Branch}
 use Rattle.arz_path.specs.declared.fault.SelectFault.{SelectFault}
 use Rattle.arz_path.specs.declared.fault.SelectFault.TheVariants as fault
 use Rattle.arz_path.specs.Outcome.{Outcome, given, wide, and_then, outcome_map, Covers}
 use Rattle.arz_path.specs.Tree.{Node}
-use Rattle.arz_path.specs.Selected.{Setting, operand_meaning, pair_of}
-use Rattle.arz_path.specs.Seen.{Finds, Grows, Picks, branches_seen}
-use Rattle.arz_path.specs.Results.{Asked, Fails, Answers, bit_seen, setting_of}
+use Rattle.arz_json.specs.Answer.{Fails as Meant}
+use Rattle.arz_path.specs.Selected.{Setting, widest, bounded, told_of, limited, operand_meaning, pair_of}
+use Rattle.arz_path.specs.Results.{Asked, cause, Fails, Answers, bit_seen, setting_of}
 use Rattle.arz_path.proofs.Outcomes.{covers_trans, through, through_map, stops_map}
 
 pub asked_same : (p : PatternsView) → Asked p p
@@ -48,28 +44,21 @@ pub fails_map : {Y Z : Type 0} (e : SelectFault) (f : Z → Y) (part : Outcome Z
 fails_map e f part whole p q is h = fails_as e part whole p q (λ k. subst (λ o. Covers o wide) (sym is) (stops_map f part k)) h
 
 -- from lists that grow, where no pattern is asked
-pub fails_grows : {Y : Type 0} (e : SelectFault) (meant : Outcome (List Node)) (new : List Node) (whole : Outcome Y) (p q : PatternsView) →
-    (meant ≡ wide → Covers whole wide) → Grows {X = Unit {0}} (Err e) meant new → Fails e whole p q
-fails_grows fault.TooWide meant new whole p q f h = f h
-fails_grows fault.Pattern meant new whole p q f h = absurd h
-fails_grows fault.Memory meant new whole p q f h = tt
+pub fails_grows : {Y : Type 0} (e : SelectFault) (ns : List Node) (whole : Outcome Y) (p q : PatternsView) →
+    (limited ns ≡ wide → Covers whole wide) → Meant (cause e) (bounded ns) → Fails e whole p q
+fails_grows fault.TooWide ns whole p q f h = f (ap told_of h)
+fails_grows fault.Pattern ns whole p q f h = of (nat_lt widest (length ns)) h
+  where
+    of : (b : Bool) → cond b (Err fault.TooWide) (Ok ns) ≡ Err fault.Pattern → Fails fault.Pattern whole p q
+    of true h = absurd (cc)
+    of false h = absurd (cc)
+fails_grows fault.Memory ns whole p q f h = tt
 
 -- what the exit of a `?` answers
 pub exit : {X Y : Type 0} (view : X → Y) (r : Result X SelectFault) (e : SelectFault) (meant : Outcome Y) (p q : PatternsView) →
     IsErrAnd r (λ y. y ≡ e) → Fails e meant p q → Answers view r meant p q
 exit view (Ok x) e meant p q h k = absurd h
 exit view (Err y) e meant p q h k = subst (λ z. Fails z meant p q) (sym h) k
-
-pub exit_finds : {X Y : Type 0} (r : Result X SelectFault) (e : SelectFault) (meant : Outcome Y) (y : Y) (p q : PatternsView) →
-    IsErrAnd r (λ z. z ≡ e) → Fails e meant p q → Finds r meant y p q
-exit_finds (Ok x) e meant y p q h k = absurd h
-exit_finds (Err z) e meant y p q h k = subst (λ d. Fails d meant p q) (sym h) k
-
-pub answers_picked : (r : Result (Vec Branch Global) SelectFault) (meant : List (Token × Json)) (p q : PatternsView) → Picks r meant → Answers branches_seen r (given meant) p q
-answers_picked (Ok v) meant p q h = ap given (sym h)
-answers_picked (Err fault.TooWide) meant p q h = absurd h
-answers_picked (Err fault.Pattern) meant p q h = absurd h
-answers_picked (Err fault.Memory) meant p q h = tt
 
 -- one operand, and then the other by what is told then
 pub pair_given : (s s' : Setting) → s' ≡ s → (current : Json) (a b : Operand) (x y : Option Json) →

@@ -1,30 +1,43 @@
 -- Lists of nodes that grow up to the widest.
-use Rattle.std.proofs.Common.{◌≡◌, ◌≤◌, List, [], ◌∷◌, ◌++◌, length, Bool, true, false, nat_lt, cond, refl, sym, ap, subst, ◌∙◌, append_assoc, append-nil, length-append, arith}
+use Rattle.std.proofs.Common.{◌≡◌, ◌≤◌, List, [], ◌∷◌, ◌++◌, length, Bool, true, false, nat_lt, cond, Result, Ok, Err, refl, sym, ap, subst, ◌∙◌, append_assoc, append-nil, length-append, arith}
 use Rattle.std.proofs.lemmas.Grind.{common_steps}
 use Rattle.arz_path.specs.Outcome.{Outcome, given, wide, untold, and_then, outcome_map, each, Covers}
 use Rattle.arz_path.specs.Tree.{Node}
-use Rattle.arz_path.specs.Selected.{widest, limited}
+use Rattle.arz_json.specs.Answer.{◌>>=◌}
+use Rattle.arz_path.specs.declared.fault.SelectFault.{SelectFault}
+use Rattle.arz_path.specs.declared.fault.SelectFault.TheVariants.{TooWide}
+use Rattle.arz_path.specs.Selected.{widest, bounded, told_of, limited}
 use Rattle.arz_path.specs.Seen.{grown}
 use Rattle.arz_path.proofs.Outcomes.{covers_same, covers_equal, covers_trans, covers_untold}
 
-pub limited_none : (old : List Node) → length old ≤ widest → limited (old ++ []) ≡ given old
-limited_none old h = grind (arith, common_steps, append-nil)
+pub bounded_none : (old : List Node) → length old ≤ widest → bounded (old ++ []) ≡ Ok old
+bounded_none old h = grind (arith, common_steps, append-nil)
 
 -- what is too wide stays so
-pub limited_more : (old xs ys : List Node) → limited (old ++ (xs ++ ys)) ≡ and_then (λ mid. limited (mid ++ ys)) (limited (old ++ xs))
-limited_more old xs ys = grind (arith, common_steps, append_assoc, length-append)
+bounded_more : (old xs ys : List Node) → bounded (old ++ (xs ++ ys)) ≡ (bounded (old ++ xs) >>= λ mid. bounded (mid ++ ys))
+bounded_more old xs ys = grind (arith, common_steps, append_assoc, length-append)
+
+pub bounded_step : (old mid : List Node) (x : Node) (ys : List Node) → bounded (old ++ x ∷ []) ≡ Ok mid → bounded (old ++ x ∷ ys) ≡ bounded (mid ++ ys)
+bounded_step old mid x ys h = bounded_more old (x ∷ []) ys ∙ ap (λ r. r >>= λ m. bounded (m ++ ys)) h
+
+pub bounded_stop : (old : List Node) (x : Node) (ys : List Node) → bounded (old ++ x ∷ []) ≡ Err TooWide → bounded (old ++ x ∷ ys) ≡ Err TooWide
+bounded_stop old x ys h = bounded_more old (x ∷ []) ys ∙ ap (λ r. r >>= λ m. bounded (m ++ ys)) h
+
+told_then : {X Y : Type 0} (f : X → Result Y SelectFault) (r : Result X SelectFault) → told_of (r >>= f) ≡ and_then (λ x. told_of (f x)) (told_of r)
+told_then f (Ok x) = refl
+told_then f (Err e) = refl
+
+limited_none : (old : List Node) → length old ≤ widest → limited (old ++ []) ≡ given old
+limited_none old h = ap told_of (bounded_none old h)
+
+limited_more : (old xs ys : List Node) → limited (old ++ (xs ++ ys)) ≡ and_then (λ mid. limited (mid ++ ys)) (limited (old ++ xs))
+limited_more old xs ys = ap told_of (bounded_more old xs ys) ∙ told_then (λ mid. bounded (mid ++ ys)) (bounded (old ++ xs))
 
 pub limited_steps : (old xs mid ys : List Node) → limited (old ++ xs) ≡ given mid → limited (old ++ (xs ++ ys)) ≡ limited (mid ++ ys)
 limited_steps old xs mid ys h = limited_more old xs ys ∙ ap (and_then (λ m. limited (m ++ ys))) h
 
 pub limited_stops : (old xs ys : List Node) → limited (old ++ xs) ≡ wide → limited (old ++ (xs ++ ys)) ≡ wide
 limited_stops old xs ys h = limited_more old xs ys ∙ ap (and_then (λ m. limited (m ++ ys))) h
-
-pub limited_step : (old mid : List Node) (x : Node) (ys : List Node) → limited (old ++ x ∷ []) ≡ given mid → limited (old ++ x ∷ ys) ≡ limited (mid ++ ys)
-limited_step old mid x ys h = limited_steps old (x ∷ []) mid ys h
-
-pub limited_stop : (old : List Node) (x : Node) (ys : List Node) → limited (old ++ x ∷ []) ≡ wide → limited (old ++ x ∷ ys) ≡ wide
-limited_stop old x ys h = limited_stops old (x ∷ []) ys h
 
 -- ---- the lists of all, a part at a time
 
@@ -69,7 +82,7 @@ grown_fault w f old x xs h k = covers_trans w _ _ h (of (f x) k)
 covers_limited : (ns : List Node) (o : Outcome (List Node)) → Covers (limited ns) o → limited ns ≡ o
 covers_limited ns o h = of (nat_lt widest (length ns)) h
   where
-    of : (b : Bool) → Covers (cond b wide (given ns)) o → cond b wide (given ns) ≡ o
+    of : (b : Bool) → Covers (told_of (cond b (Err TooWide) (Ok ns))) o → told_of (cond b (Err TooWide) (Ok ns)) ≡ o
     of true h = h
     of false h = h
 

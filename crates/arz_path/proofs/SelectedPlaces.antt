@@ -1,5 +1,5 @@
 -- Each selected place names its node.
-use Rattle.std.proofs.Common.{◌≡◌, ℕ, suc, ◌+◌, Bool, true, false, ◌&&◌, cond, List, [], ◌∷◌, ◌++◌, map, reverse, length, nat_lt, Option, Some, None, option_and_then, Ordering, Less, Equal, Greater, nat_cmp, ℤ, pos, negsuc, refl, sym, ap, subst, ◌∙◌, arith, add-zero, zero-add}
+use Rattle.std.proofs.Common.{◌≡◌, ℕ, suc, ◌+◌, Bool, true, false, ◌&&◌, cond, Ok, Err, List, [], ◌∷◌, ◌++◌, map, reverse, length, nat_lt, Option, Some, None, option_and_then, Ordering, Less, Equal, Greater, nat_cmp, ℤ, pos, negsuc, refl, sym, ap, subst, ◌∙◌, arith, add-zero, zero-add}
 use Rattle.std.specs.Prelude.{filter, slice_get}
 use Rattle.std.specs.List.{flat_map, enumerate_from}
 use Rattle.std.specs.Ordering.{is_lt, is_eq, int_eq}
@@ -33,7 +33,8 @@ use Rattle.arz_json.specs.declared.place.Token.{Token}
 use Rattle.arz_json.specs.declared.place.Token.TheVariants.{Name, Index}
 use Rattle.arz_path.specs.Outcome.{Outcome, given, wide, untold, and_then, outcome_map, each}
 use Rattle.arz_path.specs.Tree.{Node, items_in, items_of, members_in, members_of, item_child, member_child, children, preorder}
-use Rattle.arz_path.specs.Selected.{Setting, widest, kept, below_node, is_name, index_in, indexed_at, is_taken, in_direction, sliced, run, selected, segment_meaning, selector_meaning, test_meaning}
+use Rattle.arz_path.specs.declared.fault.SelectFault.TheVariants.{TooWide}
+use Rattle.arz_path.specs.Selected.{Setting, widest, told_of, kept, below_node, is_name, index_in, indexed_at, is_taken, in_direction, sliced, run, selected, segment_meaning, selector_meaning, test_meaning}
 use Rattle.arz_path.specs.Results.{setting_of}
 use Rattle.arz_path.specs.Seen.{item_nodes, member_nodes, picked, chosen, chosen_all, grown, kept_all}
 use Rattle.arz_path.specs.Finding.{child_at, found_at, IsFound, Every, EachGiven}
@@ -263,7 +264,7 @@ module _ (n : ℕ) (root : Json) (whole : IsWithin n root) where
   grown_found : (o : Outcome (List Node)) → EachGiven (IsFound root) o → EachGiven (IsFound root) (grown [] o)
   grown_found (given ms) h = of (nat_lt widest (length ms))
     where
-      of : (b : Bool) → EachGiven (IsFound root) (cond b wide (given ms))
+      of : (b : Bool) → EachGiven (IsFound root) (told_of (cond b (Err TooWide) (Ok ms)))
       of true = tt
       of false = h
   grown_found wide h = tt

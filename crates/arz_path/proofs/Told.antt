@@ -1,5 +1,5 @@
 -- Where something is told of each pattern, each part of a query says something.
-use Rattle.std.proofs.Common.{ℕ, Bool, true, false, cond, List, [], ◌∷◌, ◌++◌, map, length, not, nat_lt, Option, Some, None, option_and_then, sym, subst}
+use Rattle.std.proofs.Common.{ℕ, Bool, true, false, cond, Ok, Err, List, [], ◌∷◌, ◌++◌, map, length, not, nat_lt, Option, Some, None, option_and_then, sym, subst}
 use Rattle.std.specs.List.{flat_map}
 use Rattle.std.specs.Option.{IsSome}
 use Rattle.arz_json.specs.Look.{text_in}
@@ -17,7 +17,8 @@ use Rattle.arz_query.specs.declared.query.Operand.TheViews as views
 use Rattle.arz_path.specs.Outcome.{Outcome, given, wide, untold, and_then, outcome_map, each}
 use Rattle.arz_path.specs.Tree.{Node, children, preorder}
 use Rattle.arz_path.specs.Values.{length_of}
-use Rattle.arz_path.specs.Selected.{Setting, widest, started, run, kept, below_node, answered, searched, searched_in, pair_of, selected, segment_meaning, selector_meaning, test_meaning, operand_meaning, TellsAll, IsTold}
+use Rattle.arz_path.specs.declared.fault.SelectFault.TheVariants.{TooWide}
+use Rattle.arz_path.specs.Selected.{Setting, widest, told_of, started, run, kept, below_node, answered, searched, searched_in, pair_of, selected, segment_meaning, selector_meaning, test_meaning, operand_meaning, TellsAll, IsTold}
 use Rattle.arz_path.specs.Seen.{grown, chosen, chosen_all, picked, kept_all, tested_all, found_all}
 use Rattle.arz_path.proofs.Meanings.{meaning-Name, meaning-Wildcard, meaning-Index, meaning-Slice, meaning-Not, meaning-Compare, meaning-Match, meaning-Search, meaning-Null, meaning-Flag, meaning-Int, meaning-Text, meaning-Length}
 use Rattle.arz_path.proofs.Parts.{segment-Child, segment-Descendant, selector-Filter, test-Any, test-All, test-Exists, operand-Query, operand-Value, operand-Count}
@@ -44,7 +45,7 @@ held_told f h (e ∷ es) = then_told (λ ys. outcome_map (λ more. ys ++ more) (
 grown_told : (o : Outcome (List Node)) → IsTold o → IsTold (grown [] o)
 grown_told (given ns) h = of (nat_lt widest (length ns))
   where
-    of : (b : Bool) → IsTold {X = List Node} (cond b wide (given ns))
+    of : (b : Bool) → IsTold {X = List Node} (told_of (cond b (Err TooWide) (Ok ns)))
     of true = tt
     of false = tt
 grown_told wide h = tt

@@ -1,7 +1,9 @@
 -- What selecting answers.
-use Rattle.std.specs.Prelude.{◌≡◌, ◌≤◌, ℕ, List, map, Bool, Result, Ok, Err}
+use Rattle.std.specs.Prelude.{◌≡◌, ◌≤◌, ℕ, List, map, Bool, Option, Some, None, Result, Ok, Err}
 use Rattle.arz_json.specs.declared.tree.Json.{Json}
 use Rattle.arz_rx.specs.Patterns.{PatternsView, Rose}
+use Rattle.arz_rx.specs.declared.patterns.SearchFault.{SearchFault}
+use Rattle.arz_rx.specs.declared.patterns.SearchFault.TheVariants as search
 use Rattle.arz_query.specs.Answers.{Spells}
 use Rattle.arz_query.specs.declared.query.Segment.{Segment}
 use Rattle.arz_json.specs.declared.place.Token.{Token}
@@ -26,7 +28,20 @@ Fails fault.TooWide meant old new = Covers meant wide
 Fails fault.Pattern meant old new = Rose old.too_big new.too_big
 Fails fault.Memory meant old new = Unit {0}
 
--- what is meant, of the value as it is seen, where that is told; unless it fails
+-- what a fault says of what is meant; of want of memory nothing
+abbrev pub cause : SelectFault → Option SelectFault
+cause fault.TooWide = Some fault.TooWide
+cause fault.Pattern = Some fault.Pattern
+cause fault.Memory = None
+
+-- what a fault of a search is for the selection
+abbrev pub search_fault : SearchFault → SelectFault
+search_fault search.TooBig = fault.Pattern
+search_fault search.Memory = fault.Memory
+
+-- What is meant, of the value as it is seen, where that is told; unless it fails. It is no `Gives` of
+-- arz_json: what is meant may also be untold, which is neither a value nor a fault, and `Pattern` goes by a
+-- count and not by what is meant.
 abbrev pub Answers : {X Y : Type 0} → (X → Y) → Result X SelectFault → Outcome Y → PatternsView → PatternsView → Type 0
 Answers view (Ok x) meant old new = Covers meant (given (view x))
 Answers view (Err e) meant old new = Fails e meant old new

@@ -1,12 +1,11 @@
 -- For private clauses: what the code holds, as the definitions see it.
 use Rattle.std.specs.List.{enumerate_from}
-use Rattle.std.specs.Prelude.{◌≡◌, ℕ, ℤ, pos, negsuc, ◌+◌, List, [], ◌∷◌, ◌++◌, map, filter, length, Bool, Option, Some, None, Result, Ok, Err}
+use Rattle.std.specs.Prelude.{ℕ, ℤ, pos, negsuc, ◌+◌, List, [], ◌∷◌, ◌++◌, map, filter, length, Bool, Option, Some, None}
 use Rattle.std.specs.declared.vec.Vec.{Vec}
 use Rattle.std.specs.declared.alloc.Global.{Global}
 use Rattle.arz_json.specs.declared.tree.Json.{Json}
 use Rattle.arz_json.specs.declared.tree.Json.TheVariants as tree
 use Rattle.arz_json.specs.declared.tree.Member.{Member}
-use Rattle.arz_rx.specs.Patterns.{PatternsView}
 use Rattle.arz_query.specs.declared.query.Slice.{Slice}
 use Rattle.arz_query.specs.declared.query.Start.{Start}
 use Rattle.arz_query.specs.declared.query.Selector.{Selector}
@@ -20,10 +19,7 @@ use Rattle.arz_path.specs.declared.nodes.Trail.{Trail, Child'}
 use Rattle.arz_path.specs.declared.nodes.Trail.{Start as Begin}
 use Rattle.arz_path.specs.declared.nodes.Held.{Held}
 use Rattle.arz_path.specs.declared.nodes.Branch.{Branch}
-use Rattle.arz_path.specs.declared.fault.SelectFault.{SelectFault}
-use Rattle.arz_path.specs.declared.fault.SelectFault.TheVariants as fault
-use Rattle.arz_path.specs.Results.{Fails}
-use Rattle.arz_path.specs.Outcome.{Outcome, given, wide, and_then, outcome_map, each, parts, Covers}
+use Rattle.arz_path.specs.Outcome.{Outcome, and_then, outcome_map, each, parts}
 use Rattle.arz_path.specs.Tree.{Node, preorder}
 use Rattle.arz_path.specs.declared.nodes.Found.{Found}
 use Rattle.arz_path.specs.declared.values.Worth.{Worth}
@@ -54,25 +50,6 @@ joined old more = outcome_map (λ xs. old ++ xs) more
 -- the nodes so far and those more, if not too wide
 abbrev pub grown : List Node → Outcome (List Node) → Outcome (List Node)
 grown old more = and_then limited (joined old more)
-
--- unless memory ran out, these children
-abbrev pub Picks : Result (Vec Branch Global) SelectFault → List (Token × Json) → Type 0
-Picks (Ok v) meant = map branch_of v.items ≡ meant
-Picks (Err fault.TooWide) meant = ⊥
-Picks (Err fault.Pattern) meant = ⊥
-Picks (Err fault.Memory) meant = Unit {0}
-
--- unless memory ran out: the nodes, or too wide
-abbrev pub Grows : {X : Type 0} → Result X SelectFault → Outcome (List Node) → List Node → Type 0
-Grows (Ok x) meant new = meant ≡ given new
-Grows (Err fault.TooWide) meant new = meant ≡ wide
-Grows (Err fault.Pattern) meant new = ⊥
-Grows (Err fault.Memory) meant new = Unit {0}
-
--- what is meant, where that is told, unless it fails
-abbrev pub Finds : {X Y : Type 0} → Result X SelectFault → Outcome Y → Y → PatternsView → PatternsView → Type 0
-Finds (Ok x) meant y old new = Covers meant (given y)
-Finds (Err e) meant y old new = Fails e meant old new
 
 abbrev pub branches_seen : Vec Branch Global → List (Token × Json)
 branches_seen v = map branch_of v.items

@@ -1,5 +1,5 @@
 -- What a query selects (RFC 9535, section 2).
-use Rattle.std.specs.Prelude.{ℕ, suc, ◌-◌, ◌%◌, ◌==◌, ◌&&◌, not, min, ℤ, pos, negsuc, List, [], ◌∷◌, ◌++◌, map, filter, reverse, length, Bool, true, false, nat_lt, nat_le, if◌then◌else◌, Option, Some, None, option_and_then, slice_get}
+use Rattle.std.specs.Prelude.{ℕ, suc, ◌-◌, ◌%◌, ◌==◌, ◌&&◌, not, min, ℤ, pos, negsuc, List, [], ◌∷◌, ◌++◌, map, filter, reverse, length, Bool, true, false, nat_lt, nat_le, if◌then◌else◌, Option, Some, None, option_and_then, slice_get, Result, Ok, Err}
 use Rattle.std.specs.List.{enumerate_from, flat_map, list_all, list_any}
 use Rattle.std.specs.Option.{IsSome}
 use Rattle.std.specs.Ordering.{int_eq}
@@ -20,6 +20,8 @@ use Rattle.arz_query.specs.declared.query.Operand.TheOpen.{Segment-F, Selector-F
 use Rattle.arz_query.specs.declared.query.Operand.TheFolds.{fold-Segment, fold-Selector, fold-Test, fold-Operand}
 use Rattle.arz_json.specs.declared.place.Token.{Token}
 use Rattle.arz_json.specs.declared.place.Token.TheVariants.{Name, Index}
+use Rattle.arz_path.specs.declared.fault.SelectFault.{SelectFault}
+use Rattle.arz_path.specs.declared.fault.SelectFault.TheVariants.{TooWide}
 use Rattle.arz_path.specs.Outcome.{Outcome, given, wide, untold, and_then, outcome_map, each, parts}
 use Rattle.arz_path.specs.Tree.{Node, items_of, item_child, children, preorder}
 use Rattle.arz_path.specs.Values.{compared, length_of}
@@ -28,8 +30,18 @@ use Rattle.arz_path.specs.Values.{compared, length_of}
 abbrev pub widest : ℕ
 widest = 1000000
 
+-- a list of nodes, unless it is too wide
+abbrev pub bounded : List Node → Result (List Node) SelectFault
+bounded ns = if nat_lt widest (length ns) then Err TooWide else Ok ns
+
+-- such an answer as an outcome: nothing of it is untold, and TooWide is the only fault that is meant
+abbrev pub told_of : {X : Type 0} → Result X SelectFault → Outcome X
+told_of (Ok x) = given x
+told_of (Err e) = wide
+
+-- a list of nodes, unless it is too wide, as an outcome
 abbrev pub limited : List Node → Outcome (List Node)
-limited ns = if nat_lt widest (length ns) then wide else given ns
+limited ns = told_of (bounded ns)
 
 -- ---- one selector at one node
 
@@ -164,6 +176,10 @@ operand_step (Operand-F.Value start ss) setting current = outcome_map only (inne
 abbrev pub pair_of : OperandMeaning → OperandMeaning → Setting → Json → Outcome (Option Json × Option Json)
 pair_of a b setting current = and_then (λ x. outcome_map (λ y. (x, y)) (b setting current)) (a setting current)
 
+-- whether a text matches a pattern, all of it where whole is true (2.4.6, 2.4.7)
+abbrev pub matched : Bool → OperandMeaning → OperandMeaning → TestMeaning
+matched whole text pattern setting current = and_then (λ p. searched_in setting.told whole p.0 p.1) (pair_of text pattern setting current)
+
 -- 2.3.5.2
 abbrev pub test_step : Test-F OperandMeaning SegmentMeaning SelectorMeaning TestMeaning → TestMeaning
 test_step (Test-F.Any ts) setting current = outcome_map (list_any (λ b. b)) (parts (λ t. t setting current) ts)
@@ -171,8 +187,8 @@ test_step (Test-F.All ts) setting current = outcome_map (list_all (λ b. b)) (pa
 test_step (Test-F.Not t) setting current = outcome_map not (t setting current)
 test_step (Test-F.Exists start ss) setting current = outcome_map is_some_node (inner start ss setting current)
 test_step (Test-F.Compare a op b) setting current = outcome_map (λ p. compared op p.0 p.1) (pair_of a b setting current)
-test_step (Test-F.Match a b) setting current = and_then (λ p. searched_in setting.told true p.0 p.1) (pair_of a b setting current)
-test_step (Test-F.Search a b) setting current = and_then (λ p. searched_in setting.told false p.0 p.1) (pair_of a b setting current)
+test_step (Test-F.Match a b) setting current = matched true a b setting current
+test_step (Test-F.Search a b) setting current = matched false a b setting current
 
 -- a child, where it is to be kept
 abbrev pub kept : Token × Json → Bool → List (Token × Json)

@@ -4,7 +4,7 @@ ghost use Rattle.std.specs.List.{list_any, list_all};
 ghost use Rattle.arz_path.specs.Outcome.{outcome_map};
 ghost use Rattle.arz_path.specs.Tree.{children};
 ghost use Rattle.arz_path.specs.Selected.{widest, segment_meaning, selector_meaning, test_meaning, operand_meaning};
-ghost use Rattle.arz_path.specs.Seen.{seen, grown, Finds, all_seen, branches_seen, bits_seen, worth_seen, found_seen, found_in, chosen, chosen_all, kept_all, found_all, tested_all, run_all};
+ghost use Rattle.arz_path.specs.Seen.{seen, grown, all_seen, branches_seen, bits_seen, worth_seen, found_seen, found_in, chosen, chosen_all, kept_all, found_all, tested_all, run_all};
 ghost use Rattle.arz_path.specs.Results.{Asked, Answers, bit_seen, setting_of};
 
 use crate::SelectFault;
@@ -35,9 +35,7 @@ pub fn nodes_after<'t, 'a, P: Patterns>(
     ensures asked { Asked (P.patterns rx.old) (P.patterns rx.new) }
 {
     let mut nodes = Vec::new(alloc);
-    let Ok(()) = nodes.push(origin) else {
-        return Err(SelectFault::Memory);
-    };
+    nodes.push(origin)?;
     for segment in segments.as_slice() {
         nodes = after_segment(segment, alloc, bump, root, nodes.as_slice(), rx)?;
     }
@@ -60,9 +58,7 @@ fn after_segment<'t, 'a, P: Patterns>(
     match segment {
         Segment::Child(selectors) => choose_all(selectors, alloc, bump, root, nodes, rx),
         Segment::Descendant(selectors) => {
-            let Ok(all) = descend_all(alloc, bump, nodes) else {
-                return Err(SelectFault::Memory);
-            };
+            let all = descend_all(alloc, bump, nodes)?;
             choose_all(selectors, alloc, bump, root, all.as_slice(), rx)
         }
     }
@@ -99,8 +95,8 @@ fn choose_each<'t, 'a, P: Patterns>(
     rx: &mut P,
 ) -> Result<(), SelectFault>
     requires { length out.old.items ≤ widest }
-    ensures gives { Finds result (grown (map seen out.old.items) (chosen (setting_of (P.patterns rx.old) root.now) selectors.now (seen node.now)))
-        (map seen out.new.items) (P.patterns rx.old) (P.patterns rx.new) }
+    ensures gives { Answers (λ _. map seen out.new.items) result (grown (map seen out.old.items) (chosen (setting_of (P.patterns rx.old) root.now) selectors.now (seen node.now)))
+        (P.patterns rx.old) (P.patterns rx.new) }
     ensures asked { Asked (P.patterns rx.old) (P.patterns rx.new) }
     ensures room { length out.new.items ≤ widest }
 {
@@ -125,10 +121,10 @@ fn pick<'a, P: Patterns>(
     ensures asked { Asked (P.patterns rx.old) (P.patterns rx.new) }
 {
     match selector {
-        Selector::Name(name) => named(alloc, name.as_str(), members_of(value)),
-        Selector::Wildcard => children_of(alloc, value),
-        Selector::Index(i) => item_named(alloc, *i, items_of(value)),
-        Selector::Slice(slice) => slice_of(alloc, slice, items_of(value)),
+        Selector::Name(name) => Ok(named(alloc, name.as_str(), members_of(value))?),
+        Selector::Wildcard => Ok(children_of(alloc, value)?),
+        Selector::Index(i) => Ok(item_named(alloc, *i, items_of(value))?),
+        Selector::Slice(slice) => Ok(slice_of(alloc, slice, items_of(value))?),
         Selector::Filter(test) => keep_where(test, alloc, root, value, rx),
     }
 }
@@ -152,9 +148,7 @@ fn keep_where<'a, P: Patterns>(
         if !holds(test, alloc, root, child.value, rx)? {
             continue;
         }
-        let Ok(()) = kept.push(*child) else {
-            return Err(SelectFault::Memory);
-        };
+        kept.push(*child)?;
     }
     Ok(kept)
 }
@@ -173,18 +167,9 @@ fn holds<'a, P: Patterns>(
     ensures asked { Asked (P.patterns rx.old) (P.patterns rx.new) }
 {
     match test {
-        Test::Any(tests) => {
-            let all = hold_each(tests, alloc, root, current, rx)?;
-            Ok(any_of(all.as_slice()))
-        }
-        Test::All(tests) => {
-            let all = hold_each(tests, alloc, root, current, rx)?;
-            Ok(all_of(all.as_slice()))
-        }
-        Test::Not(test) => {
-            let bit = holds(test.get(), alloc, root, current, rx)?;
-            Ok(!bit)
-        }
+        Test::Any(tests) => Ok(any_of(hold_each(tests, alloc, root, current, rx)?)),
+        Test::All(tests) => Ok(all_of(hold_each(tests, alloc, root, current, rx)?)),
+        Test::Not(test) => Ok(!holds(test.get(), alloc, root, current, rx)?),
         Test::Exists(start, segments) => {
             let found = found_from(segments, *start, alloc, root, current, rx)?;
             Ok(found.count > 0)
@@ -207,14 +192,14 @@ fn holds<'a, P: Patterns>(
     }
 }
 
-fn any_of(bits: &[bool]) -> bool
-    ensures { result ≡ list_any (λ b. b) bits.now }
+fn any_of(bits: Vec<bool>) -> bool
+    ensures { result ≡ list_any (λ b. b) bits.items }
 {
     bits.iter().any(|b| *b)
 }
 
-fn all_of(bits: &[bool]) -> bool
-    ensures { result ≡ list_all (λ b. b) bits.now }
+fn all_of(bits: Vec<bool>) -> bool
+    ensures { result ≡ list_all (λ b. b) bits.items }
 {
     bits.iter().all(|b| *b)
 }
@@ -235,9 +220,7 @@ fn hold_each<'a, P: Patterns>(
     let mut all = Vec::new(alloc);
     for test in tests.as_slice() {
         let bit = holds(test, alloc, root, current, rx)?;
-        let Ok(()) = all.push(bit) else {
-            return Err(SelectFault::Memory);
-        };
+        all.push(bit)?;
     }
     Ok(all)
 }

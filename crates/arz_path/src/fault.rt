@@ -1,8 +1,10 @@
 // Why a selection is given up.
 ghost use Rattle.std.specs.Prelude.{◌≡◌};
+ghost use Rattle.arz_path.specs.Results.{search_fault};
 ghost use Rattle.arz_path.specs.declared.fault.SelectFault.TheVariants.{Memory};
 
-use std::alloc::AllocError;
+use arz_rx::SearchFault;
+use std::alloc::{AllocError, AllocFailed};
 use thiserror::Error;
 
 /// Why a selection was given up.
@@ -24,5 +26,24 @@ impl From<AllocError> for SelectFault {
 
     fn from(_: AllocError) -> SelectFault {
         SelectFault::Memory
+    }
+}
+
+impl<T: Drop> From<AllocFailed<T>> for SelectFault {
+    ghost from_gives = { λ _ e. e ≡ Memory };
+
+    fn from(_: AllocFailed<T>) -> SelectFault {
+        SelectFault::Memory
+    }
+}
+
+impl From<SearchFault> for SelectFault {
+    ghost from_gives = { λ fault e. e ≡ search_fault fault };
+
+    fn from(fault: SearchFault) -> SelectFault {
+        match fault {
+            SearchFault::TooBig => SelectFault::Pattern,
+            SearchFault::Memory => SelectFault::Memory,
+        }
     }
 }

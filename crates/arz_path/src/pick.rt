@@ -1,20 +1,19 @@
 // The children of a value that a selector without a test selects.
-ghost use Rattle.std.specs.Prelude.{◌≡◌, ◌≢◌, ◌≤◌, [], ◌∷◌, ◌++◌, map, filter, length, slice_get, pos, OnOk};
+ghost use Rattle.std.specs.Prelude.{◌≡◌, ◌≢◌, ◌≤◌, [], ◌∷◌, ◌++◌, map, filter, length, slice_get, pos, IfOk, OnOk};
 ghost use Rattle.std.specs.Option.{option_copied};
 ghost use Rattle.std.specs.List.{enumerate_from};
 ghost use Rattle.arz_path.specs.Tree.{children, item_child, member_child};
 ghost use Rattle.arz_path.specs.Selected.{is_name, indexed, index_in, sliced, is_taken, up_to, past, bound, in_direction};
-ghost use Rattle.arz_path.specs.Seen.{branch_of, Picks, lowest, highest, taken_from};
+ghost use Rattle.arz_path.specs.Seen.{branch_of, lowest, highest, taken_from};
 
-use crate::SelectFault;
 use crate::nodes::{Branch, Step, items_of, members_of};
 use arz_json::{Json, Member};
 use arz_query::Slice;
 use std::alloc::{AllocError, Global};
 
 /// All children.
-pub fn children_of<'a>(alloc: Global, value: &'a Json) -> Result<Vec<Branch<'a>>, SelectFault>
-    ensures { Picks result (children value.now) }
+pub fn children_of<'a>(alloc: Global, value: &'a Json) -> Result<Vec<Branch<'a>>, AllocError>
+    ensures { IfOk result (λ all. map branch_of all.items ≡ children value.now) }
 {
     let mut all = Vec::new(alloc);
     add_items(items_of(value), &mut all)?;
@@ -50,8 +49,8 @@ pub fn named<'a>(
     alloc: Global,
     name: &str,
     members: &'a [Member],
-) -> Result<Vec<Branch<'a>>, SelectFault>
-    ensures { Picks result (filter (λ c. is_name name.now c.0) (map member_child members.now)) }
+) -> Result<Vec<Branch<'a>>, AllocError>
+    ensures { IfOk result (λ all. map branch_of all.items ≡ filter (λ c. is_name name.now c.0) (map member_child members.now)) }
 {
     let mut all = Vec::new(alloc);
     for member in members {
@@ -94,8 +93,8 @@ pub fn item_named<'a>(
     alloc: Global,
     i: i64,
     items: &'a [Json],
-) -> Result<Vec<Branch<'a>>, SelectFault>
-    ensures { Picks result (indexed i items.now) }
+) -> Result<Vec<Branch<'a>>, AllocError>
+    ensures { IfOk result (λ all. map branch_of all.items ≡ indexed i items.now) }
 {
     let mut all = Vec::new(alloc);
     let at = place_in(items.len(), i);
@@ -185,8 +184,8 @@ pub fn slice_of<'a>(
     alloc: Global,
     slice: &Slice,
     items: &'a [Json],
-) -> Result<Vec<Branch<'a>>, SelectFault>
-    ensures { Picks result (sliced slice.now items.now) }
+) -> Result<Vec<Branch<'a>>, AllocError>
+    ensures { IfOk result (λ all. map branch_of all.items ≡ sliced slice.now items.now) }
 {
     let mut all = Vec::new(alloc);
     if slice.step == 0 {

@@ -1,7 +1,9 @@
 // Putting the children that a selector selects at the end of a list of nodes.
 ghost use Rattle.std.specs.Prelude.{◌≡◌, ◌≤◌, [], ◌∷◌, ◌++◌, length, map};
-ghost use Rattle.arz_path.specs.Selected.{widest, limited, below_node};
-ghost use Rattle.arz_path.specs.Seen.{token_of, tokens_of, seen, branch_of, Grows};
+ghost use Rattle.arz_json.specs.Answer.{Gives};
+ghost use Rattle.arz_path.specs.Selected.{widest, bounded, below_node};
+ghost use Rattle.arz_path.specs.Results.{cause};
+ghost use Rattle.arz_path.specs.Seen.{token_of, tokens_of, seen, branch_of};
 
 use crate::SelectFault;
 use crate::nodes::{Branch, Held, further};
@@ -18,9 +20,8 @@ fn push_child<'t, 'a>(
     out: &mut Vec<Held<'t, 'a>>,
 ) -> Result<(), SelectFault>
     requires { length out.old.items ≤ widest }
-    ensures gives { Grows result
-        (limited (map seen out.old.items ++ (tokens_of node.now.trail.now ++ token_of child.entry.step ∷ [], child.entry.value.now) ∷ []))
-        (map seen out.new.items) }
+    ensures gives { Gives (λ _. map seen out.new.items) cause result
+        (bounded (map seen out.old.items ++ (tokens_of node.now.trail.now ++ token_of child.entry.step ∷ [], child.entry.value.now) ∷ [])) }
     ensures room { length out.new.items ≤ widest }
 {
     if out.len() >= WIDEST {
@@ -28,14 +29,12 @@ fn push_child<'t, 'a>(
     }
     let trail = further(bump, node.trail, child.step)?;
     let value = child.value;
-    match out.push(Held { trail, value }) {
-        Ok(()) => Ok(()),
-        Err(_) => Err(SelectFault::Memory),
-    }
+    out.push(Held { trail, value })?;
+    Ok(())
 }
 
 /// Children of a node, in order. It stops where the list would be too long.
-#[tactic(auto, using(crate::proofs::Growth::limited_step, crate::proofs::Growth::limited_stop, crate::proofs::Growth::limited_none))]
+#[tactic(auto, using(crate::proofs::Growth::bounded_step, crate::proofs::Growth::bounded_stop, crate::proofs::Growth::bounded_none))]
 pub fn push_all<'t, 'a>(
     bump: &'t Bump,
     node: &Held<'t, 'a>,
@@ -43,9 +42,8 @@ pub fn push_all<'t, 'a>(
     out: &mut Vec<Held<'t, 'a>>,
 ) -> Result<(), SelectFault>
     requires { length out.old.items ≤ widest }
-    ensures gives { Grows result
-        (limited (map seen out.old.items ++ below_node (seen node.now) (map branch_of children.now)))
-        (map seen out.new.items) }
+    ensures gives { Gives (λ _. map seen out.new.items) cause result
+        (bounded (map seen out.old.items ++ below_node (seen node.now) (map branch_of children.now))) }
     ensures room { length out.new.items ≤ widest }
 {
     for child in children {

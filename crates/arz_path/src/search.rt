@@ -6,18 +6,16 @@ ghost use Rattle.arz_path.specs.Results.{Asked, Answers, bit_seen};
 
 use crate::SelectFault;
 use crate::values::{Worth, text_of};
-use arz_rx::{Patterns, SearchFault, i_regexp};
+use arz_rx::{Patterns, i_regexp};
 use std::alloc::Global;
 
 fn ask<P: Patterns>(pattern: &str, text: &str, rx: &mut P) -> Result<bool, SelectFault>
     ensures gives { Answers bit_seen result (answered ((P.patterns rx.old).told pattern.now text.now)) (P.patterns rx.old) (P.patterns rx.new) }
     ensures asked { Asked (P.patterns rx.old) (P.patterns rx.new) }
 {
-    match rx.search(pattern, text) {
-        Ok(Some(found)) => Ok(found),
-        Ok(None) => Ok(false),
-        Err(SearchFault::TooBig) => Err(SelectFault::Pattern),
-        Err(SearchFault::Memory) => Err(SelectFault::Memory),
+    match rx.search(pattern, text)? {
+        Some(found) => Ok(found),
+        None => Ok(false),
     }
 }
 

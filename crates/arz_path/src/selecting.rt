@@ -34,10 +34,7 @@ pub fn select<P: Patterns>(
         value: root,
     };
     let nodes = nodes_after(query.segments(), alloc, &bump, root, origin, rx)?;
-    match places_of(alloc, nodes.as_slice()) {
-        Ok(places) => Ok(places),
-        Err(_) => Err(SelectFault::Memory),
-    }
+    Ok(places_of(alloc, nodes.as_slice())?)
 }
 
 /// Whether a query selects anything. It is refused as `select` refuses it.

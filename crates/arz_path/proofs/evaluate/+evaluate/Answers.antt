@@ -12,11 +12,11 @@ use Rattle.arz_path.specs.declared.nodes.Branch.{Branch}
 use Rattle.arz_path.specs.Outcome.{given, outcome_map, Covers}
 use Rattle.arz_path.specs.Tree.{preorder}
 use Rattle.arz_path.specs.Values.{compared, length_of}
-use Rattle.arz_path.specs.Selected.{started, is_some_node, only, count_of, searched_in, segment_meaning, selector_meaning, test_meaning, operand_meaning}
+use Rattle.arz_path.specs.Selected.{told_of, started, is_some_node, only, count_of, searched_in, segment_meaning, selector_meaning, test_meaning, operand_meaning}
 use Rattle.arz_path.specs.Seen.{seen, branch_of, worth_seen, grown, joined, all_seen, branches_seen, bits_seen, found_seen, found_in, chosen, chosen_all, kept_all, found_all, tested_all, run_all}
 use Rattle.arz_path.specs.Results.{Fails, bit_seen, setting_of}
 use Rattle.arz_path.proofs.Outcomes.{through_map}
-use Rattle.arz_path.proofs.Faults.{asked_then, same_setting, fails_from, fails_map, fails_grows, exit, exit_finds, answers_picked, answers_later, pair_given}
+use Rattle.arz_path.proofs.Faults.{asked_then, same_setting, fails_from, fails_map, fails_grows, exit, answers_later, pair_given}
 use Rattle.arz_path.proofs.Parts.{segment-Child, segment-Descendant, selector-Name, selector-Filter, test-Any, test-All, test-Exists, operand-Query, operand-Value, operand-Count, found-run, of_found, some_found}
 use Rattle.arz_path.proofs.Meanings.{meaning-Not, meaning-Length, meaning-Compare, meaning-Match, meaning-Search}
 use Rattle.arz_path.proofs.Steps.{kept_skip, kept_take, kept_fault, tested_step, tested_fault, run_step, run_fault, chosen_step, chosen_wide, chosen_fault, nodes_step, nodes_fault, kept_end, tested_end, run_end, chosen_end, nodes_end}
@@ -28,10 +28,10 @@ after_segment-returns-in-Child-clause-gives g t c =
     let is = ap (λ s. segment_meaning s (setting_of (g.P.Patterns.patterns c.args.rx.now) c.args.root.now) (map seen c.args.nodes.now)) c.in-Child.is ∙ segment-Child c.in-Child.selectors (setting_of (g.P.Patterns.patterns c.args.rx.now) c.args.root.now) (map seen c.args.nodes.now) in
     rw is c.choose_all.ensures.gives
 
-pub after_segment-returns-in-Ok-clause-gives : goal.after_segment-returns-in-Ok-clause-gives
-after_segment-returns-in-Ok-clause-gives g t c =
+pub after_segment-returns-in_ok-all-in-Descendant-clause-gives : goal.after_segment-returns-in_ok-all-in-Descendant-clause-gives
+after_segment-returns-in_ok-all-in-Descendant-clause-gives g t c =
     let is = ap (λ s. segment_meaning s (setting_of (g.P.Patterns.patterns c.args.rx.now) c.args.root.now) (map seen c.args.nodes.now)) c.in-Descendant.is ∙ segment-Descendant c.in-Descendant.selectors (setting_of (g.P.Patterns.patterns c.args.rx.now) c.args.root.now) (map seen c.args.nodes.now) in
-    let all : map seen c.as_slice.result.now ≡ flat_map preorder (map seen c.args.nodes.now) = ap (map seen) c.as_slice.ensures.value ∙ c.in-Ok.ensures in
+    let all : map seen c.as_slice.result.now ≡ flat_map preorder (map seen c.args.nodes.now) = ap (map seen) c.as_slice.ensures.value ∙ c.in_ok-all-in-Descendant.ensures in
     rw (is, ← all) c.choose_all-in-Descendant.ensures.gives
 
 pub choose_all-returns-in_err-choose_each-clause-gives : goal.choose_all-returns-in_err-choose_each-clause-gives
@@ -64,7 +64,7 @@ choose_each-returns-in_err-children-clause-gives g t c =
     let whole : c.as_slice-selector-items.result.now ≡ c.args.selectors.now = c.as_slice-selector-items.ensures in
     let x : Selector = c.selector-item.result in
     let cut : drop l.selector-index c.as_slice-selector-items.result.now ≡ x ∷ drop (l.selector-index + 1) c.as_slice-selector-items.result.now = grind (arith, common_steps) in
-    exit_finds c.from_residual.result c.in_err-children.field-0.0 _ _ _ _ c.from_residual.ensures.1
+    exit _ c.from_residual.result c.in_err-children.field-0.0 _ _ _ c.from_residual.ensures.1
     (rw (← whole) (fails_from _ _ _ _ _ _ l.invariant.1 (chosen_fault (setting_of (g.P.Patterns.patterns c.args.rx.now) c.args.root.now) (setting_of (g.P.Patterns.patterns c.loop-selector.rx) c.args.root.now) (same_setting (g.P.Patterns.patterns c.args.rx.now) (g.P.Patterns.patterns c.loop-selector.rx) c.args.root.now c.loop-selector.invariant.1) (seen c.args.node.now) (grown (map seen c.args.out.now.items) (chosen (setting_of (g.P.Patterns.patterns c.args.rx.now) c.args.root.now) c.as_slice-selector-items.result.now (seen c.args.node.now))) (map seen l.out.items) x _ _ cut l.invariant.0) c.in_err-children.ensures.gives))
 
 pub choose_each-returns-in_err-push_all-clause-gives : goal.choose_each-returns-in_err-push_all-clause-gives
@@ -74,8 +74,8 @@ choose_each-returns-in_err-push_all-clause-gives g t c =
     let x : Selector = c.selector-item.result in
     let cut : drop l.selector-index c.as_slice-selector-items.result.now ≡ x ∷ drop (l.selector-index + 1) c.as_slice-selector-items.result.now = grind (arith, common_steps) in
     let children : Covers (selector_meaning x (setting_of (g.P.Patterns.patterns c.loop-selector.rx) c.args.root.now) (seen c.args.node.now).1) (given (map branch_of c.as_slice.result.now)) = subst (λ (vs : List Branch). Covers (selector_meaning x (setting_of (g.P.Patterns.patterns c.loop-selector.rx) c.args.root.now) (seen c.args.node.now).1) (given (map branch_of vs))) (sym c.as_slice.ensures.value) c.in_ok-children.ensures.gives in
-    exit_finds c.from_residual-in_err-push_all.result c.in_err-push_all.field-0.0 _ _ _ _ c.from_residual-in_err-push_all.ensures.1
-    (rw (← whole) (fails_grows c.in_err-push_all.field-0.0 _ _ _ _ _ (chosen_wide (setting_of (g.P.Patterns.patterns c.args.rx.now) c.args.root.now) (setting_of (g.P.Patterns.patterns c.loop-selector.rx) c.args.root.now) (same_setting (g.P.Patterns.patterns c.args.rx.now) (g.P.Patterns.patterns c.loop-selector.rx) c.args.root.now c.loop-selector.invariant.1) (seen c.args.node.now) (grown (map seen c.args.out.now.items) (chosen (setting_of (g.P.Patterns.patterns c.args.rx.now) c.args.root.now) c.as_slice-selector-items.result.now (seen c.args.node.now))) (map seen l.out.items) x _ _ cut l.invariant.0 (map branch_of c.as_slice.result.now) children) c.in_err-push_all.ensures.gives))
+    exit _ c.from_residual-in_err-push_all.result c.in_err-push_all.field-0.0 _ _ _ c.from_residual-in_err-push_all.ensures.1
+    (rw (← whole) (fails_grows c.in_err-push_all.field-0.0 _ _ _ _ (chosen_wide (setting_of (g.P.Patterns.patterns c.args.rx.now) c.args.root.now) (setting_of (g.P.Patterns.patterns c.loop-selector.rx) c.args.root.now) (same_setting (g.P.Patterns.patterns c.args.rx.now) (g.P.Patterns.patterns c.loop-selector.rx) c.args.root.now c.loop-selector.invariant.1) (seen c.args.node.now) (grown (map seen c.args.out.now.items) (chosen (setting_of (g.P.Patterns.patterns c.args.rx.now) c.args.root.now) c.as_slice-selector-items.result.now (seen c.args.node.now))) (map seen l.out.items) x _ _ cut l.invariant.0 (map branch_of c.as_slice.result.now) children) c.in_err-push_all.ensures.gives))
 
 pub choose_each-loop-selector-preserved : goal.choose_each-loop-selector-preserved
 choose_each-loop-selector-preserved g t c =
@@ -83,7 +83,7 @@ choose_each-loop-selector-preserved g t c =
     let x : Selector = c.selector-item.result in
     let cut : drop l.selector-index c.as_slice-selector-items.result.now ≡ x ∷ drop (l.selector-index + 1) c.as_slice-selector-items.result.now = grind (arith, common_steps) in
     let children : Covers (selector_meaning x (setting_of (g.P.Patterns.patterns c.loop-selector.rx) c.args.root.now) (seen c.args.node.now).1) (given (map branch_of c.as_slice.result.now)) = subst (λ (vs : List Branch). Covers (selector_meaning x (setting_of (g.P.Patterns.patterns c.loop-selector.rx) c.args.root.now) (seen c.args.node.now).1) (given (map branch_of vs))) (sym c.as_slice.ensures.value) c.in_ok-children.ensures.gives in (
-      chosen_step (setting_of (g.P.Patterns.patterns c.args.rx.now) c.args.root.now) (setting_of (g.P.Patterns.patterns c.loop-selector.rx) c.args.root.now) (same_setting (g.P.Patterns.patterns c.args.rx.now) (g.P.Patterns.patterns c.loop-selector.rx) c.args.root.now c.loop-selector.invariant.1) (seen c.args.node.now) (grown (map seen c.args.out.now.items) (chosen (setting_of (g.P.Patterns.patterns c.args.rx.now) c.args.root.now) c.as_slice-selector-items.result.now (seen c.args.node.now))) (map seen l.out.items) x _ _ cut l.invariant.0 (map branch_of c.as_slice.result.now) (map seen c.push_all.new.out.items) children c.in_ok-push_all.ensures.gives,
+      chosen_step (setting_of (g.P.Patterns.patterns c.args.rx.now) c.args.root.now) (setting_of (g.P.Patterns.patterns c.loop-selector.rx) c.args.root.now) (same_setting (g.P.Patterns.patterns c.args.rx.now) (g.P.Patterns.patterns c.loop-selector.rx) c.args.root.now c.loop-selector.invariant.1) (seen c.args.node.now) (grown (map seen c.args.out.now.items) (chosen (setting_of (g.P.Patterns.patterns c.args.rx.now) c.args.root.now) c.as_slice-selector-items.result.now (seen c.args.node.now))) (map seen l.out.items) x _ _ cut l.invariant.0 (map branch_of c.as_slice.result.now) (map seen c.push_all.new.out.items) children (ap told_of c.in_ok-push_all.ensures.gives),
       asked_then _ _ _ l.invariant.1 c.in_ok-children.ensures.asked,
       c.in_ok-push_all.ensures.room,
     )
@@ -127,7 +127,7 @@ hold_each-loop-test-preserved g t c =
     let l = c.loop-test in
     let x : Test = c.test-item.result in
     let cut : drop l.test-index c.as_slice-test-items.result.now ≡ x ∷ drop (l.test-index + 1) c.as_slice-test-items.result.now = grind (arith, common_steps) in (
-      tested_step (setting_of (g.P.Patterns.patterns c.args.rx.now) c.args.root.now) (setting_of (g.P.Patterns.patterns c.loop-test.rx) c.args.root.now) (same_setting (g.P.Patterns.patterns c.args.rx.now) (g.P.Patterns.patterns c.loop-test.rx) c.args.root.now c.loop-test.invariant.1) c.args.current.now (tested_all (setting_of (g.P.Patterns.patterns c.args.rx.now) c.args.root.now) c.args.current.now c.as_slice-test-items.result.now) l.all.items c.push.new.self.items x _ _ cut l.invariant.0 c.in_ok-bit.bit c.in-Ok.ensures.items c.in_ok-bit.ensures.gives,
+      tested_step (setting_of (g.P.Patterns.patterns c.args.rx.now) c.args.root.now) (setting_of (g.P.Patterns.patterns c.loop-test.rx) c.args.root.now) (same_setting (g.P.Patterns.patterns c.args.rx.now) (g.P.Patterns.patterns c.loop-test.rx) c.args.root.now c.loop-test.invariant.1) c.args.current.now (tested_all (setting_of (g.P.Patterns.patterns c.args.rx.now) c.args.root.now) c.args.current.now c.as_slice-test-items.result.now) l.all.items c.push.new.self.items x _ _ cut l.invariant.0 c.in_ok-bit.bit c.in_ok-push.ensures.items c.in_ok-bit.ensures.gives,
       asked_then _ _ _ l.invariant.1 c.in_ok-bit.ensures.asked,
     )
 
@@ -138,42 +138,42 @@ hold_each-returns-clause-gives g t c =
     let none : drop l.test-index c.as_slice-test-items.result.now ≡ [] = grind (arith, common_steps) in
     rw (← whole) (tested_end (setting_of (g.P.Patterns.patterns c.args.rx.now) c.args.root.now) c.args.current.now _ _ (subst (λ r. Covers (tested_all (setting_of (g.P.Patterns.patterns c.args.rx.now) c.args.root.now) c.args.current.now c.as_slice-test-items.result.now) (joined l.all.items (tested_all (setting_of (g.P.Patterns.patterns c.args.rx.now) c.args.root.now) c.args.current.now r))) none l.invariant.0))
 
-pub holds-returns-in_err-all-in-Any-clause-gives : goal.holds-returns-in_err-all-in-Any-clause-gives
-holds-returns-in_err-all-in-Any-clause-gives g t c =
+pub holds-returns-in_err-hold_each-in-Any-clause-gives : goal.holds-returns-in_err-hold_each-in-Any-clause-gives
+holds-returns-in_err-hold_each-in-Any-clause-gives g t c =
     let is = ap (λ t. test_meaning t (setting_of (g.P.Patterns.patterns c.args.rx.now) c.args.root.now) c.args.current.now) c.in-Any.is ∙ test-Any c.in-Any.tests (setting_of (g.P.Patterns.patterns c.args.rx.now) c.args.root.now) c.args.current.now in
-    exit bit_seen c.from_residual.result c.in_err-all-in-Any.field-0.0 _ _ _ c.from_residual.ensures.1
-    (fails_map _ (list_any (λ b. b)) _ _ _ _ is c.in_err-all-in-Any.ensures.gives)
+    exit bit_seen c.from_residual.result c.in_err-hold_each-in-Any.field-0.0 _ _ _ c.from_residual.ensures.1
+    (fails_map _ (list_any (λ b. b)) _ _ _ _ is c.in_err-hold_each-in-Any.ensures.gives)
 
-pub holds-returns-in_ok-all-in-Any-clause-gives : goal.holds-returns-in_ok-all-in-Any-clause-gives
-holds-returns-in_ok-all-in-Any-clause-gives g t c =
+pub holds-returns-in_ok-hold_each-in-Any-clause-gives : goal.holds-returns-in_ok-hold_each-in-Any-clause-gives
+holds-returns-in_ok-hold_each-in-Any-clause-gives g t c =
     let is = ap (λ t. test_meaning t (setting_of (g.P.Patterns.patterns c.args.rx.now) c.args.root.now) c.args.current.now) c.in-Any.is ∙ test-Any c.in-Any.tests (setting_of (g.P.Patterns.patterns c.args.rx.now) c.args.root.now) c.args.current.now in
-    let bit : c.any_of.result ≡ (list_any (λ b. b)) c.in_ok-all-in-Any.all.items = grind (arith, common_steps) in
-    rw (is, bit) (through_map (list_any (λ b. b)) _ _ c.in_ok-all-in-Any.ensures.gives)
+    let bit : c.any_of.result ≡ (list_any (λ b. b)) c.in_ok-hold_each-in-Any.field-0.items = grind (arith, common_steps) in
+    rw (is, bit) (through_map (list_any (λ b. b)) _ _ c.in_ok-hold_each-in-Any.ensures.gives)
 
-pub holds-returns-in_err-all-in-All-clause-gives : goal.holds-returns-in_err-all-in-All-clause-gives
-holds-returns-in_err-all-in-All-clause-gives g t c =
+pub holds-returns-in_err-hold_each-in-All-clause-gives : goal.holds-returns-in_err-hold_each-in-All-clause-gives
+holds-returns-in_err-hold_each-in-All-clause-gives g t c =
     let is = ap (λ t. test_meaning t (setting_of (g.P.Patterns.patterns c.args.rx.now) c.args.root.now) c.args.current.now) c.in-All.is ∙ test-All c.in-All.tests (setting_of (g.P.Patterns.patterns c.args.rx.now) c.args.root.now) c.args.current.now in
-    exit bit_seen c.from_residual-in_err-all-in-All.result c.in_err-all-in-All.field-0.0 _ _ _ c.from_residual-in_err-all-in-All.ensures.1
-    (fails_map _ (list_all (λ b. b)) _ _ _ _ is c.in_err-all-in-All.ensures.gives)
+    exit bit_seen c.from_residual-in_err-hold_each-in-All.result c.in_err-hold_each-in-All.field-0.0 _ _ _ c.from_residual-in_err-hold_each-in-All.ensures.1
+    (fails_map _ (list_all (λ b. b)) _ _ _ _ is c.in_err-hold_each-in-All.ensures.gives)
 
-pub holds-returns-in_ok-all-in-All-clause-gives : goal.holds-returns-in_ok-all-in-All-clause-gives
-holds-returns-in_ok-all-in-All-clause-gives g t c =
+pub holds-returns-in_ok-hold_each-in-All-clause-gives : goal.holds-returns-in_ok-hold_each-in-All-clause-gives
+holds-returns-in_ok-hold_each-in-All-clause-gives g t c =
     let is = ap (λ t. test_meaning t (setting_of (g.P.Patterns.patterns c.args.rx.now) c.args.root.now) c.args.current.now) c.in-All.is ∙ test-All c.in-All.tests (setting_of (g.P.Patterns.patterns c.args.rx.now) c.args.root.now) c.args.current.now in
-    let bit : c.all_of.result ≡ (list_all (λ b. b)) c.in_ok-all-in-All.all.items = grind (arith, common_steps) in
-    rw (is, bit) (through_map (list_all (λ b. b)) _ _ c.in_ok-all-in-All.ensures.gives)
+    let bit : c.all_of.result ≡ (list_all (λ b. b)) c.in_ok-hold_each-in-All.field-0.items = grind (arith, common_steps) in
+    rw (is, bit) (through_map (list_all (λ b. b)) _ _ c.in_ok-hold_each-in-All.ensures.gives)
 
-pub holds-returns-in_err-bit-in-Not-clause-gives : goal.holds-returns-in_err-bit-in-Not-clause-gives
-holds-returns-in_err-bit-in-Not-clause-gives g t c =
+pub holds-returns-in_err-holds-in-Not-clause-gives : goal.holds-returns-in_err-holds-in-Not-clause-gives
+holds-returns-in_err-holds-in-Not-clause-gives g t c =
     let is = ap (λ t. test_meaning t (setting_of (g.P.Patterns.patterns c.args.rx.now) c.args.root.now) c.args.current.now) c.in-Not.is ∙ meaning-Not c.in-Not.test (setting_of (g.P.Patterns.patterns c.args.rx.now) c.args.root.now) c.args.current.now
     ∙ ap (λ t. outcome_map not (test_meaning t (setting_of (g.P.Patterns.patterns c.args.rx.now) c.args.root.now) c.args.current.now)) (sym c.get.ensures) in
-    exit bit_seen c.from_residual-in_err-bit-in-Not.result c.in_err-bit-in-Not.field-0.0 _ _ _ c.from_residual-in_err-bit-in-Not.ensures.1
-    (fails_map _ not _ _ _ _ is c.in_err-bit-in-Not.ensures.gives)
+    exit bit_seen c.from_residual-in_err-holds-in-Not.result c.in_err-holds-in-Not.field-0.0 _ _ _ c.from_residual-in_err-holds-in-Not.ensures.1
+    (fails_map _ not _ _ _ _ is c.in_err-holds-in-Not.ensures.gives)
 
-pub holds-returns-in_ok-bit-in-Not-clause-gives : goal.holds-returns-in_ok-bit-in-Not-clause-gives
-holds-returns-in_ok-bit-in-Not-clause-gives g t c =
+pub holds-returns-in_ok-holds-in-Not-clause-gives : goal.holds-returns-in_ok-holds-in-Not-clause-gives
+holds-returns-in_ok-holds-in-Not-clause-gives g t c =
     let is = ap (λ t. test_meaning t (setting_of (g.P.Patterns.patterns c.args.rx.now) c.args.root.now) c.args.current.now) c.in-Not.is ∙ meaning-Not c.in-Not.test (setting_of (g.P.Patterns.patterns c.args.rx.now) c.args.root.now) c.args.current.now
     ∙ ap (λ t. outcome_map not (test_meaning t (setting_of (g.P.Patterns.patterns c.args.rx.now) c.args.root.now) c.args.current.now)) (sym c.get.ensures) in
-    rw is (through_map not _ _ c.in_ok-bit-in-Not.ensures.gives)
+    rw is (through_map not _ _ c.in_ok-holds-in-Not.ensures.gives)
 
 pub holds-returns-in_err-found-in-Exists-clause-gives : goal.holds-returns-in_err-found-in-Exists-clause-gives
 holds-returns-in_err-found-in-Exists-clause-gives g t c =
@@ -233,7 +233,7 @@ keep_where-loop-child-preserved g t c =
     let x : Branch = c.child-item.result in
     let cut : drop l.child-index c.as_slice-child-items.result.now ≡ x ∷ drop (l.child-index + 1) c.as_slice-child-items.result.now = grind (arith, common_steps) in
     let yes : c.in_ok-holds.field-0 ≡ true = grind (arith, common_steps) in (
-      kept_take (setting_of (g.P.Patterns.patterns c.args.rx.now) c.args.root.now) (setting_of (g.P.Patterns.patterns c.loop-child.rx) c.args.root.now) (same_setting (g.P.Patterns.patterns c.args.rx.now) (g.P.Patterns.patterns c.loop-child.rx) c.args.root.now c.loop-child.invariant.1) c.args.test.now (kept_all (setting_of (g.P.Patterns.patterns c.args.rx.now) c.args.root.now) c.args.test.now (map branch_of c.as_slice-child-items.result.now)) l.kept.items c.push.new.self.items x _ _ cut l.invariant.0 c.in-Ok.ensures.items (subst (λ b. Covers (test_meaning c.args.test.now (setting_of (g.P.Patterns.patterns c.loop-child.rx) c.args.root.now) (branch_of x).1) (given b)) yes c.in_ok-holds.ensures.gives),
+      kept_take (setting_of (g.P.Patterns.patterns c.args.rx.now) c.args.root.now) (setting_of (g.P.Patterns.patterns c.loop-child.rx) c.args.root.now) (same_setting (g.P.Patterns.patterns c.args.rx.now) (g.P.Patterns.patterns c.loop-child.rx) c.args.root.now c.loop-child.invariant.1) c.args.test.now (kept_all (setting_of (g.P.Patterns.patterns c.args.rx.now) c.args.root.now) c.args.test.now (map branch_of c.as_slice-child-items.result.now)) l.kept.items c.push.new.self.items x _ _ cut l.invariant.0 c.in_ok-push.ensures.items (subst (λ b. Covers (test_meaning c.args.test.now (setting_of (g.P.Patterns.patterns c.loop-child.rx) c.args.root.now) (branch_of x).1) (given b)) yes c.in_ok-holds.ensures.gives),
       asked_then _ _ _ l.invariant.1 c.in_ok-holds.ensures.asked,
       l.invariant.2,
     )
@@ -250,7 +250,7 @@ nodes_after-returns-in_err-nodes-clause-gives g t c =
     let whole : c.as_slice-segment-items.result.now ≡ c.args.segments.now = c.as_slice-segment-items.ensures in
     let x : Segment = c.segment-item.result in
     let cut : drop l.segment-index c.as_slice-segment-items.result.now ≡ x ∷ drop (l.segment-index + 1) c.as_slice-segment-items.result.now = grind (arith, common_steps) in
-    exit all_seen c.from_residual.result c.in_err-nodes.field-0.0 _ _ _ c.from_residual.ensures.1
+    exit all_seen c.from_residual-in_err-nodes.result c.in_err-nodes.field-0.0 _ _ _ c.from_residual-in_err-nodes.ensures.1
     (rw (← whole) (fails_from _ _ _ _ _ _ l.invariant.1 (run_fault (setting_of (g.P.Patterns.patterns c.args.rx.now) c.args.root.now) (setting_of (g.P.Patterns.patterns c.loop-segment.rx) c.args.root.now) (same_setting (g.P.Patterns.patterns c.args.rx.now) (g.P.Patterns.patterns c.loop-segment.rx) c.args.root.now c.loop-segment.invariant.1) (run_all (setting_of (g.P.Patterns.patterns c.args.rx.now) c.args.root.now) c.as_slice-segment-items.result.now (seen c.args.origin ∷ [])) x _ _ cut (map seen l.nodes.items) l.invariant.0) (subst (λ (ns : List Held). Fails c.in_err-nodes.field-0.0 (segment_meaning x (setting_of (g.P.Patterns.patterns c.loop-segment.rx) c.args.root.now) (map seen ns)) (g.P.Patterns.patterns c.loop-segment.rx) (g.P.Patterns.patterns c.after_segment.new.rx)) c.as_slice.ensures.value c.in_err-nodes.ensures.gives)))
 
 pub nodes_after-loop-segment-preserved : goal.nodes_after-loop-segment-preserved
@@ -269,10 +269,11 @@ nodes_after-returns-clause-gives g t c =
     let none : drop l.segment-index c.as_slice-segment-items.result.now ≡ [] = grind (arith, common_steps) in
     rw (← whole) (run_end (setting_of (g.P.Patterns.patterns c.args.rx.now) c.args.root.now) _ _ (subst (λ r. Covers (run_all (setting_of (g.P.Patterns.patterns c.args.rx.now) c.args.root.now) c.as_slice-segment-items.result.now (seen c.args.origin ∷ [])) (run_all (setting_of (g.P.Patterns.patterns c.args.rx.now) c.args.root.now) r (map seen l.nodes.items))) none l.invariant.0))
 
-pub pick-returns-in-Name-clause-gives : goal.pick-returns-in-Name-clause-gives
-pick-returns-in-Name-clause-gives g t c =
+pub pick-returns-in_ok-named-in-Name-clause-gives : goal.pick-returns-in_ok-named-in-Name-clause-gives
+pick-returns-in_ok-named-in-Name-clause-gives g t c =
     let is = ap (λ s. selector_meaning s (setting_of (g.P.Patterns.patterns c.args.rx.now) c.args.root.now) c.args.value.now) c.in-Name.is ∙ selector-Name c.in-Name.name (setting_of (g.P.Patterns.patterns c.args.rx.now) c.args.root.now) c.args.value.now in
-    rw is (answers_picked c.named.result _ (g.P.Patterns.patterns c.args.rx.now) (g.P.Patterns.patterns c.args.rx.now) (grind (arith, common_steps)))
+    let found = c.in_ok-named-in-Name.ensures in
+    rw is (ap given (grind (arith, common_steps, found)))
 
 pub pick-returns-in-Filter-clause-gives : goal.pick-returns-in-Filter-clause-gives
 pick-returns-in-Filter-clause-gives g t c =

@@ -18,11 +18,11 @@ returns-in_err-nodes-clause-selects g c vs h =
     exit places_seen c.from_residual.result c.in_err-nodes.field-0.0 _ _ _ c.from_residual.ensures.1
     (fails_map _ (map place_of) _ _ _ _ run c.in_err-nodes.ensures.gives)
 
-pub returns-in-Ok-clause-selects : goal.returns-in-Ok-clause-selects
-returns-in-Ok-clause-selects g c vs h =
+pub returns-clause-selects : goal.returns-clause-selects
+returns-clause-selects g c vs h =
     let setting = setting_of (g.P.Patterns.patterns c.args.rx.now) c.args.root.now in
     let spells = c.segments.ensures in
     let same : vs ≡ c.segments.result.now = (one-reading _ vs _ h.marks _ h.read.query spells.read.query).0 in
     let run = ap (λ s. places s setting) same ∙ places-run c.segments.result.now setting in
-    let all : places_seen c.in-Ok.places ≡ map place_of (map seen c.in_ok-nodes.nodes.items) = grind (arith, common_steps) in
+    let all : places_seen c.in_ok-places_of.field-0 ≡ map place_of (map seen c.in_ok-nodes.nodes.items) = grind (arith, common_steps) in
     rw (run, all) (through_map (map place_of) _ _ c.in_ok-nodes.ensures.gives)
