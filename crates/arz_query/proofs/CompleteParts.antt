@@ -2,12 +2,12 @@
 use Rattle.std.proofs.Common.{◌≡◌, ℕ, ◌==◌, ◌||◌, List, [], ◌∷◌, length, Bool, true, false, cond, ℤ, Option, Some, None, option_map, option_and_then, refl, sym, ap, ap₂, ◌∙◌, arith}
 use Rattle.std.proofs.lemmas.Grind.{common_steps}
 use Rattle.std.specs.Char.{is_ascii_lowercase}
-use Rattle.arz_query.specs.Words.{Read, Reader, joined, plural, chosen, with_value}
+use Rattle.arz_query.specs.Words.{list_of_one, Read, Reader, joined, plural, chosen, with_value}
 use Rattle.arz_query.specs.Lexical.{after_byte, is_next, is_of, skip_blanks, name_at}
 use Rattle.arz_query.specs.Numbers.{index_at, literal_at}
 use Rattle.arz_query.specs.Typing.{as_test, tested_as, test_of, is_test, ill_unless}
 use Rattle.arz_query.specs.Grammar.{IsBlank, nothing, blank, IsInt, IsWord, IsOptional, IsStep, IsOperator, IsShorthand, no_int, int, no_step, empty_step, step, equal, unequal, less_or_equal, greater_or_equal, less, greater, wildcard, shorthand}
-use Rattle.arz_query.specs.Reading.{wildcard as wildcard_of, begins_int, bound_at, step_at, some_bound, with_blanks, no_bound, slice_of, slice_step, slice_end, slice_begun, index_of, index_or_slice, numbered_at, named, tested, selector_of, one_selector, shorthand_at, keyword_of, arguments_of, called, word_of, term_of, comparison_at, compared_of, item_of}
+use Rattle.arz_query.specs.Reading.{wildcard as wildcard_of, begins_int, bound_at, step_at, some_bound, with_blanks, no_bound, slice_of, slice_step, slice_end, slice_begun, index_of, index_or_slice, numbered_at, named, tested, selector_of, shorthand_at, keyword_of, arguments_of, called, word_of, term_of, comparison_at, compared_of, item_of}
 use Rattle.arz_query.specs.declared.words.Class.TheVariants as class
 use Rattle.arz_query.specs.declared.pieces.Marks.{Marks}
 use Rattle.arz_query.specs.declared.terms.Term.{Term}
@@ -126,8 +126,8 @@ pub shorthand_given : {s r : List ℕ} {vs : List Selector} {m : Marks} → IsSh
 unfolding shorthand_at
 shorthand_given wildcard = refl
 shorthand_given (shorthand {s} {r} {name = n} e) =
-    ap (λ c. chosen c (λ t. Some (one_selector (wildcard_of t))) (option_map (λ n. one_selector (named n)) (name_at s))) (no_byte (is_of class.Name) 42 s (name_begins s r n e) refl)
-    ∙ ap (option_map (λ (n : List ℕ × List ℕ). one_selector (named n))) (name_from s r n e)
+    ap (λ c. chosen c (λ t. Some (list_of_one (wildcard_of t))) (option_map (λ n. list_of_one (named n)) (name_at s))) (no_byte (is_of class.Name) 42 s (name_begins s r n e) refl)
+    ∙ ap (option_map (λ (n : List ℕ × List ℕ). list_of_one (named n))) (name_from s r n e)
 
 pub operator_given : {u w : List ℕ} {b : Comparison} → IsOperator u w b → after_byte 61 w ≡ None → comparison_at u ≡ Some (b, w)
 unfolding comparison_at

@@ -1,11 +1,11 @@
 -- What is read is in the grammar: lists, and parts without expressions.
 use Rattle.std.proofs.Common.{◌≡◌, ℕ, zero, suc, ◌==◌, List, [], ◌∷◌, length, true, ℤ, Option, Some, None, option_map, option_and_then, inl, inr, refl, sym, subst, ◌∙◌, arith}
-use Rattle.arz_query.specs.Words.{Read, Reader, fine, joined, chosen, with_front, no_more, more_at, items_at}
+use Rattle.arz_query.specs.Words.{list_of_one, Read, Reader, fine, joined, chosen, with_front, no_more, more_at, items_at}
 use Rattle.arz_query.specs.Lexical.{after_byte, after_pair, is_next, skip_blanks, name_at}
 use Rattle.arz_query.specs.Numbers.{index_at}
 use Rattle.arz_query.specs.Grammar as g
 use Rattle.arz_query.specs.Grammar.{IsBlank, IsOptional, IsStep, IsOperator, IsShorthand}
-use Rattle.arz_query.specs.Reading.{bound_at, some_bound, with_blanks, no_bound, comma, shorthand_at, segment_start, comparison_at, begins_int, begins_segment, one_selector, wildcard, named}
+use Rattle.arz_query.specs.Reading.{bound_at, some_bound, with_blanks, no_bound, comma, shorthand_at, segment_start, comparison_at, begins_int, begins_segment, wildcard, named}
 use Rattle.arz_query.specs.declared.pieces.Marks.{Marks}
 use Rattle.arz_query.specs.declared.query.Selector.{Selector}
 use Rattle.arz_query.specs.declared.query.Comparison.{Comparison}
@@ -127,12 +127,12 @@ bound_sound s one e =
 pub shorthand_sound : Sound shorthand_at IsShorthand
 unfolding shorthand_at
 shorthand_sound s one e =
-    elim (chosen_by (after_byte 42 s) (λ t. Some (one_selector (wildcard t))) (option_map (λ n. one_selector (named n)) (name_at s)) one e) [
+    elim (chosen_by (after_byte 42 s) (λ t. Some (list_of_one (wildcard t))) (option_map (λ n. list_of_one (named n)) (name_at s)) one e) [
       | inl p ↦
           subst (λ x. IsShorthand x one.rest one.value one.marks) (sym (byte_is 42 s p.0 p.1.0))
           (subst (λ (o : Read (List Selector)). IsShorthand (42 ∷ p.0) o.rest o.value o.marks) (some_is p.1.1) g.wildcard)
       | inr p ↦
-          let q = mapped (λ n. one_selector (named n)) (name_at s) one p.1 in
+          let q = mapped (λ n. list_of_one (named n)) (name_at s) one p.1 in
           subst (λ (o : Read (List Selector)). IsShorthand s o.rest o.value o.marks) q.1.1 (g.shorthand (name_to s q.0.1 q.0.0 q.1.0))
     ]
 

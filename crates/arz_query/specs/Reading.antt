@@ -2,7 +2,7 @@
 use Rattle.std.specs.Prelude.{ℕ, zero, suc, ◌==◌, ◌&&◌, ◌||◌, not, Bool, true, false, ℤ, pos, List, [], ◌∷◌, length, codes, if◌then◌else◌, Option, Some, None, option_map, option_and_then, unwrap_or}
 use Rattle.std.specs.Char.{is_ascii_digit, is_ascii_lowercase}
 use Rattle.std.specs.Str.{bytes_eq}
-use Rattle.arz_query.specs.Words.{Read, Reader, chosen, fine, joined, plural, with_value, with_rest, with_front, no_more, more_at, items_at}
+use Rattle.arz_query.specs.Words.{Read, Reader, chosen, list_of_one, fine, joined, plural, with_value, with_rest, with_front, no_more, more_at, items_at}
 use Rattle.arz_query.specs.Lexical.{cut, is_of, is_next, skip_blanks, after_byte, after_mark, after_pair, name_at, quoted_at}
 use Rattle.arz_query.specs.Numbers.{is_empty, index_at, literal_at}
 use Rattle.arz_query.specs.Typing.{operand_of, is_value, ill_unless, as_test, call_of}
@@ -126,12 +126,9 @@ selection_of below s = option_and_then (selection_closed s) (items_at comma (sel
 
 -- ---- segments
 
-abbrev pub one_selector : Read Selector → Read (List Selector)
-one_selector = with_value (λ v. v ∷ [])
-
 -- wildcard-selector / member-name-shorthand
 unfoldable pub shorthand_at : Reader (List Selector)
-shorthand_at s = chosen (after_byte 42 s) (λ t. Some (one_selector (wildcard t))) (option_map (λ n. one_selector (named n)) (name_at s))
+shorthand_at s = chosen (after_byte 42 s) (λ t. Some (list_of_one (wildcard t))) (option_map (λ n. list_of_one (named n)) (name_at s))
 
 abbrev pub child : Read (List Selector) → Read Segment
 child = with_value Child

@@ -51,8 +51,8 @@ abbrev pub with_rest : {V : Type 0} → Read V → List ℕ → Read V
 with_rest one rest = record { value = one.value; marks = one.marks; rest = rest }
 
 -- a list of one item
-abbrev pub one_item : {V : Type 0} → Read V → Read (List V)
-one_item = with_value (λ v. v ∷ [])
+abbrev pub list_of_one : {V : Type 0} → Read V → Read (List V)
+list_of_one = with_value (λ v. v ∷ [])
 
 -- one item more, that was read where the list ended
 abbrev pub with_item : {V : Type 0} → Read (List V) → Read V → Read (List V)

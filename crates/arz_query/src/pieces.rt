@@ -1,6 +1,6 @@
 // What reading gives.
 ghost use Rattle.std.specs.Prelude.{◌≡◌, Some, OnOk};
-ghost use Rattle.arz_query.specs.Words.{Gives, as_read, first_flaw, one_item, with_item};
+ghost use Rattle.arz_query.specs.Words.{Gives, as_read, first_flaw, list_of_one, with_item};
 ghost use Rattle.arz_query.specs.declared.pieces.ReadFault.TheVariants.{Memory};
 
 use sqlite_items::Items;
@@ -123,7 +123,7 @@ pub(crate) fn first_of<T: Drop>(
     alloc: Global,
     one: Part<'_, T>,
 ) -> Result<Part<'_, Items<T>>, ReadFault>
-    ensures { Gives as_read result (Some (one_item (as_read one.entry))) }
+    ensures { Gives as_read result (Some (list_of_one (as_read one.entry))) }
 {
     let Part { value, marks, rest } = one;
     let mut items = Items::new(alloc);
