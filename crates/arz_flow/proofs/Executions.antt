@@ -6,10 +6,10 @@ use Rattle.arz_flow.specs.declared.answers.Answer.{Answer}
 use Rattle.arz_flow.specs.declared.bundle.Bundle.{Bundle}
 use Rattle.arz_json.specs.Tree.{has_opaque}
 use Rattle.arz_json.specs.declared.Json.TheVariants.{Object}
-use Rattle.arz_flow.specs.Play.{Result, Completed, Broke, NoStep, Stuck, Play, Spent, Lost, Out, Ends, Gives}
+use Rattle.arz_flow.specs.Play.{Result, Completed, Broke, NoStep, Stuck, Budget, Play, Spent, Lost, Out, Ends, Gives}
 use Rattle.arz_flow.specs.Cases.{Runs, script}
 use Rattle.arz_flow.specs.declared.answers.End.{End}
-use Rattle.arz_flow.specs.declared.answers.End.TheVariants.{Completed as EndCompleted, Broke as EndBroke, Out as EndOut, Stuck as EndStuck}
+use Rattle.arz_flow.specs.declared.answers.End.TheVariants.{Completed as EndCompleted, Broke as EndBroke, Out as EndOut, Stuck as EndStuck, Budget as EndBudget}
 use Rattle.arz_flow.specs.Executions.{fits, HasPace, start, execution, pace, fuel, whole, asks_of, end_of, end_of_result, TookAll, asks, end, Fitting, IsPrefixOf}
 use Rattle.arz_flow.specs.Laws.{OneEnd, AsManyAsks, OneMore, PrefixFits}
 use Rattle.arz_flow.specs.Stands.{Comes}
@@ -84,6 +84,7 @@ is_out (EndOut q) = true
 is_out (EndCompleted outputs) = false
 is_out (EndBroke outputs) = false
 is_out (EndStuck cause at) = false
+is_out (EndBudget limit) = false
 
 true_isnt_false : true ≡ false → ⊥
 true_isnt_false e = absurd cc
@@ -105,6 +106,7 @@ takes_one w q x Spent p' h e f n = absurd cc
 takes_one w q x Lost p' h e f n = absurd cc
 takes_one w q x (Ends NoStep s) p' h e f n = absurd cc
 takes_one w q x (Ends (Stuck cause at) s) p' h e f n = absurd cc
+takes_one w q x (Ends (Budget limit) s) p' h e f n = absurd cc
 takes_one w q x (Gives o s) p' h e f n = absurd (result_isnt_out w o q e)
 takes_one w q x (Out a s) p' h e f n =
     let same : a ≡ q = cc in

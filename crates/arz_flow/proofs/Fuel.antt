@@ -1,5 +1,5 @@
 -- The fuel that each case takes.
-use Rattle.std.proofs.Common.{◌≡◌, ℕ, suc, ◌+◌, ◌-◌, ◌*◌, ◌<◌, ◌≤◌, List, true, false, Option, Some, None, refl, arith}
+use Rattle.std.proofs.Common.{◌≡◌, ℕ, suc, ◌+◌, ◌-◌, ◌*◌, ◌<◌, ◌≤◌, ◌==◌, if◌then◌else◌, List, Bool, true, false, Option, Some, None, refl, arith}
 use Rattle.std.specs.Prelude.{slice_get}
 use Rattle.arz_json.specs.declared.Json.{Json}
 use Rattle.arz_json.specs.declared.Member.{Member}
@@ -9,10 +9,10 @@ use Rattle.std.specs.declared.result.Result.TheVariants.{Ok, Err}
 use Rattle.arz_world.specs.declared.Request.{Request}
 use Rattle.arz_flow.specs.declared.answers.Spot.{Spot}
 use Rattle.arz_flow.specs.Outcomes.{Made}
-use Rattle.arz_flow.specs.Play.{Result, Completed, Broke, Seen, Script, Plays, Sends}
+use Rattle.arz_flow.specs.Play.{Result, Completed, Broke, Budget, Seen, sends_in, Script, Stops, Plays, Sends}
 use Rattle.arz_flow.specs.Requests.{request_of}
 use Rattle.arz_flow.specs.Scopes.{Nothing, found}
-use Rattle.arz_flow.specs.Cases.{Run, Case, Runs, Enters, Goes_on, Closes, give, after_run, with_step, with_request, spot, surroundings, fact_of, with_fact, after_reply, is_success, attempt, next_step, script}
+use Rattle.arz_flow.specs.Cases.{Run, Case, Runs, Enters, Goes_on, Closes, give, after_run, with_step, with_request, within_budget, spot, surroundings, fact_of, with_fact, after_reply, is_success, attempt, next_step, script}
 use Rattle.arz_flow.proofs.Bounded.{Bounded}
 
 fewer : (x y k : ℕ) → x < y → x * k + k ≤ y * k
@@ -67,10 +67,18 @@ module _ (b : Bundle) (K : ℕ) (big : 8 ≤ K) where
   request_bd (Ok q) at n a owed t up k le h = h q
   request_bd (Err cause) at n a owed t up k le h = le
 
+  budget_bd : (v : Seen) (n a owed t up : ℕ) (c : Script Case) → t ≤ K → Bd n c a owed t up → Bd n (within_budget b v c) a owed t up
+  budget_bd v n a owed t up c le h = by_test (sends_in v.asked == b.max_attempts)
+    where
+      by_test : (spent : Bool) → Bd n (if spent then Stops (Budget b.max_attempts) else c) a owed t up
+      by_test true = le
+      by_test false = h
+
   -- after a reply an answer fewer is left
   attempt_bd : (n a t : ℕ) (r : Run) (i : ℕ) (v : Seen) (step : Json) → a * K ≤ n → t ≤ K → Bd n (attempt b r i v step) a 1 t 2
   attempt_bd n a t r i v step le gap =
-      request_bd (request_of b (found (surroundings b r v.done) Nothing) step) (spot r step) n a 1 t 2 (λ q. Sends q (after_reply b r i step q)) gap (λ q.
+      request_bd (request_of b (found (surroundings b r v.done) Nothing) step) (spot r step) n a 1 t 2 (λ q. within_budget b v (Sends q (after_reply b r i step q))) gap (λ q.
+      budget_bd v n a 1 t 2 (Sends q (after_reply b r i step q)) gap
       (gap, λ y w a' lt. tail n a' 0 0 2 (Goes_on (with_fact r (fact_of b r w.done step q y)) i (is_success y)) (omega (arith, le, fewer a' a K lt, big)) (omega (arith, big)) (omega arith) (omega arith)))
 
   -- each case

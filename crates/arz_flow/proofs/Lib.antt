@@ -4,6 +4,7 @@ pub mod Extends
 pub mod Bounded
 pub mod Fuel
 pub mod Steady
+pub mod Budget
 pub mod Executions
 pub mod Standing
 pub mod Examples

@@ -1,5 +1,5 @@
 -- A play whose steps are there never ends for want of a step.
-use Rattle.std.proofs.Common.{◌≡◌, ℕ, zero, suc, ◌+◌, ◌<◌, true, false, List, [], ◌∷◌, ◌++◌, length, Option, Some, None, refl, arith}
+use Rattle.std.proofs.Common.{◌≡◌, ℕ, zero, suc, ◌+◌, ◌<◌, ◌==◌, if◌then◌else◌, Bool, true, false, List, [], ◌∷◌, ◌++◌, length, Option, Some, None, refl, arith}
 use Rattle.std.specs.Prelude.{slice_get}
 use Rattle.std.specs.declared.result.Result.TheVariants.{Ok, Err}
 use Rattle.arz_json.specs.declared.Json.{Json}
@@ -15,8 +15,8 @@ use Rattle.arz_flow.specs.Documents.{steps_of}
 use Rattle.arz_flow.specs.Outcomes.{Made}
 use Rattle.arz_flow.specs.Requests.{request_of}
 use Rattle.arz_flow.specs.Scopes.{Nothing, found}
-use Rattle.arz_flow.specs.Play.{Result, Completed, Broke, NoStep, Stuck, Seen, State, seen, Play, Spent, Lost, Out, Ends, Gives, Script, Give, Stops, Sends, Waits, Plays, Records, then_play, take_reply, take_served, turn, follow, play}
-use Rattle.arz_flow.specs.Cases.{Run, Case, Runs, Enters, Goes_on, Closes, give, after_run, with_step, with_request, spot, surroundings, after_reply, attempt, next_step, script}
+use Rattle.arz_flow.specs.Play.{Result, Completed, Broke, NoStep, Stuck, Budget, Seen, sends_in, State, seen, Play, Spent, Lost, Out, Ends, Gives, Script, Give, Stops, Sends, Waits, Plays, Records, then_play, take_reply, take_served, turn, follow, play}
+use Rattle.arz_flow.specs.Cases.{Run, Case, Runs, Enters, Goes_on, Closes, give, after_run, with_step, with_request, within_budget, spot, surroundings, after_reply, attempt, next_step, script}
 use Rattle.arz_flow.specs.Executions.{TookAll, whole, start, fuel, end, end_of, Fitting}
 use Rattle.arz_flow.specs.Valid.{IsValid}
 
@@ -27,6 +27,7 @@ Found Lost = Unit {0}
 Found (Out q s) = Unit {0}
 Found (Ends NoStep s) = ⊥
 Found (Ends (Stuck cause at) s) = Unit {0}
+Found (Ends (Budget limit) s) = Unit {0}
 Found (Gives r s) = Unit {0}
 
 then_found : (p : Play) (f : Result → State → Play) → Found p → ((r : Result) (s : State) → Found (f r s)) → Found (then_play p f)
@@ -35,6 +36,7 @@ then_found Lost f g h = tt
 then_found (Out q s) f g h = tt
 then_found (Ends NoStep s) f g h = g
 then_found (Ends (Stuck cause at) s) f g h = tt
+then_found (Ends (Budget limit) s) f g h = tt
 then_found (Gives r s) f g h = h r s
 
 reply_found : (q : Request) (left : List Answer) (s : State) (f : Reply → State → Play) → ((y : Reply) (t : State) → Found (f y t)) → Found (take_reply q left s f)
@@ -53,6 +55,7 @@ module _ {Goal : Type 0} (Fine : Goal → Type 0) where
   Steady (Give r) = Unit {0}
   Steady (Stops NoStep) = ⊥
   Steady (Stops (Stuck cause at)) = Unit {0}
+  Steady (Stops (Budget limit)) = Unit {0}
   Steady (Sends q k) = (y : Reply) (v : Seen) → Steady (k y v)
   Steady (Waits n k) = (v : Seen) → Steady (k v)
   Steady (Plays g k) = Fine g × ((r : Result) (v : Seen) → Steady (k r v))
@@ -62,6 +65,7 @@ module _ {Goal : Type 0} (Fine : Goal → Type 0) where
   follow_found f h (Give r) s st = tt
   follow_found f h (Stops NoStep) s st = st
   follow_found f h (Stops (Stuck cause at)) s st = tt
+  follow_found f h (Stops (Budget limit)) s st = tt
   follow_found f h (Sends q k) s st = reply_found q s.left s _ (λ y t. follow_found f h (k y (seen t)) t (st y (seen t)))
   follow_found f h (Waits n k) s st = served_found n s.left s _ (λ t. follow_found f h (k (seen t)) t (st (seen t)))
   follow_found f h (Plays g k) s st = then_found (f g s) _ (h g s st.0) (λ r t. follow_found f h (k r (seen t)) t (st.1 r (seen t)))
@@ -90,6 +94,13 @@ module _ (b : Bundle) where
   request_steady (Ok q) at k h = h q
   request_steady (Err cause) at k h = tt
 
+  budget_steady : (v : Seen) (c : Script Case) → Goes c → Goes (within_budget b v c)
+  budget_steady v c h = by_test (sends_in v.asked == b.max_attempts)
+    where
+      by_test : (spent : Bool) → Goes (if spent then Stops (Budget b.max_attempts) else c)
+      by_test true = tt
+      by_test false = h
+
   ends_steady : (w : List ℕ) (inputs : List Member) (o : Result) (v : Seen) → Goes (after_run w inputs o v)
   ends_steady w inputs (Completed outputs) v = tt
   ends_steady w inputs (Broke outputs) v = tt
@@ -103,7 +114,8 @@ module _ (b : Bundle) where
   script_steady (Runs w inputs) v there = (there, λ o u. ends_steady w inputs o u)
   script_steady (Enters r i) v there =
       step_steady (slice_get (steps_of b r.workflow) i) there.0 (attempt b r i v) there.1 (λ step.
-      request_steady (request_of b (found (surroundings b r v.done) Nothing) step) (spot r step) (λ q. Sends q (after_reply b r i step q)) (λ q y u. (tt, λ o w. tt)))
+      request_steady (request_of b (found (surroundings b r v.done) Nothing) step) (spot r step) (λ q. within_budget b v (Sends q (after_reply b r i step q))) (λ q.
+      budget_steady v (Sends q (after_reply b r i step q)) (λ y u. (tt, λ o w. tt))))
   script_steady (Goes_on r i true) v there = next_steady r (i + 1) (slice_get (steps_of b r.workflow) (i + 1)) refl
   script_steady (Goes_on r i false) v there = (tt, λ o u. tt)
   script_steady (Closes r ok) v there = tt
@@ -118,6 +130,7 @@ ended w Lost f t = absurd t
 ended w (Out q s) f t = (_, refl)
 ended w (Ends NoStep s) f t = absurd f
 ended w (Ends (Stuck cause at) s) f t = (_, refl)
+ended w (Ends (Budget limit) s) f t = (_, refl)
 ended w (Gives o s) f t = (_, refl)
 
 -- over answers that fit, a valid bundle has an end

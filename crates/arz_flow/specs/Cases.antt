@@ -1,5 +1,5 @@
 -- The workflow relation, case by case, over the raw documents (Arazzo 1.0.1, 4.6.4 and 4.6.5).
-use Rattle.std.specs.Prelude.{ℕ, ◌+◌, ◌&&◌, ◌++◌, nat_le, Bool, true, false, List, [], ◌∷◌, codes, slice_get}
+use Rattle.std.specs.Prelude.{ℕ, ◌+◌, ◌==◌, ◌&&◌, ◌++◌, nat_le, if◌then◌else◌, Bool, true, false, List, [], ◌∷◌, codes, slice_get}
 use Rattle.std.specs.declared.option.Option.{Option}
 use Rattle.std.specs.declared.option.Option.TheVariants.{None, Some}
 use Rattle.std.specs.declared.result.Result.TheVariants.{Ok, Err}
@@ -13,7 +13,7 @@ use Rattle.arz_flow.specs.declared.facts.Fact.{Fact}
 use Rattle.arz_flow.specs.Documents.{text_at, workflow_named, steps_of}
 use Rattle.arz_flow.specs.Outcomes.{Made}
 use Rattle.arz_flow.specs.Outputs.{outputs_of}
-use Rattle.arz_flow.specs.Play.{Result, Completed, Broke, Completion, NoStep, Stuck, Seen, Script, Give, Stops, Sends, Plays, Records}
+use Rattle.arz_flow.specs.Play.{Result, Completed, Broke, Completion, NoStep, Stuck, Budget, Seen, sends_in, Script, Give, Stops, Sends, Plays, Records}
 use Rattle.arz_flow.specs.Requests.{request_of}
 use Rattle.arz_flow.specs.Scopes.{Surroundings, Nothing, Exchange, found}
 
@@ -67,6 +67,10 @@ abbrev pub with_request : Made Request → Spot → (Request → Script Case) �
 with_request (Ok q) at k = k q
 with_request (Err cause) at k = Stops (Stuck cause at)
 
+-- where as many requests were sent as may be, everything ends before the next
+abbrev pub within_budget : Bundle → Seen → Script Case → Script Case
+within_budget b seen next = if sends_in seen.asked == b.max_attempts then Stops (Budget b.max_attempts) else next
+
 -- an attempt without criteria succeeds at the statuses 200 to 299
 abbrev pub is_success : Reply → Bool
 is_success reply = nat_le 200 reply.status && nat_le reply.status 299
@@ -81,9 +85,11 @@ with_fact r fact = record { workflow = r.workflow; inputs = r.inputs; facts = r.
 abbrev pub after_reply : Bundle → Run → (step : ℕ) → Json → Request → Reply → Seen → Script Case
 after_reply b r i step q y seen = Plays (Goes_on (with_fact r (fact_of b r seen.done step q y)) i (is_success y)) give
 
--- the attempt of an operation step: its request is sent, and one reply is taken
+-- the attempt of an operation step: its request is made, and sent where one more may be, and one reply is taken
 abbrev pub attempt : Bundle → Run → (step : ℕ) → Seen → Json → Script Case
-attempt b r i seen step = with_request (request_of b (found (surroundings b r seen.done) Nothing) step) (spot r step) (λ q. Sends q (after_reply b r i step q))
+attempt b r i seen step =
+    with_request (request_of b (found (surroundings b r seen.done) Nothing) step) (spot r step) (λ q.
+    within_budget b seen (Sends q (after_reply b r i step q)))
 
 -- the step after, or the end of the run after the last
 abbrev pub next_step : Run → (step : ℕ) → Option Json → Case

@@ -7,11 +7,11 @@ use Rattle.arz_flow.specs.declared.answers.Answer.{Answer}
 use Rattle.arz_flow.specs.declared.answers.Answer.TheVariants.{Reply as Replied, Served}
 use Rattle.arz_flow.specs.declared.answers.End.{End}
 use Rattle.arz_flow.specs.declared.answers.Cause.TheVariants.{FractionUsed}
-use Rattle.arz_flow.specs.declared.answers.End.TheVariants.{Completed as EndCompleted, Broke as EndBroke, Out as EndOut, Stuck as EndStuck}
+use Rattle.arz_flow.specs.declared.answers.End.TheVariants.{Completed as EndCompleted, Broke as EndBroke, Out as EndOut, Stuck as EndStuck, Budget as EndBudget}
 use Rattle.arz_json.specs.Tree.{has_opaque}
 use Rattle.arz_json.specs.declared.Json.TheVariants.{Object}
 use Rattle.arz_json.specs.declared.Member.{Member}
-use Rattle.arz_flow.specs.Play.{State, Result, Play, Spent, Lost, Out, Ends, Gives, Completed, Broke, NoStep, Stuck, play}
+use Rattle.arz_flow.specs.Play.{State, Result, Play, Spent, Lost, Out, Ends, Gives, Completed, Broke, NoStep, Stuck, Budget, play}
 use Rattle.arz_flow.specs.Cases.{Runs, script}
 
 -- whether an answer fits its ask
@@ -61,6 +61,7 @@ end_of workflow Lost = None
 end_of workflow (Out q s) = Some (EndOut q)
 end_of workflow (Ends NoStep s) = None
 end_of workflow (Ends (Stuck cause at) s) = Some (EndStuck cause at)
+end_of workflow (Ends (Budget limit) s) = Some (EndBudget limit)
 end_of workflow (Gives o s) = Some (end_of_result workflow o)
 
 -- the play has come to an end, and took all answers

@@ -1,11 +1,13 @@
 -- Statements of the laws of asks and ends.
-use Rattle.std.specs.Prelude.{ℕ, ◌≤◌, ◌≡◌, ◌≢◌, true, List, [], ◌∷◌, ◌++◌, Some, length, slice_get}
+use Rattle.std.specs.Prelude.{ℕ, ◌<◌, ◌≤◌, ◌≡◌, ◌≢◌, true, List, [], ◌∷◌, ◌++◌, Some, length, slice_get}
 use Rattle.arz_flow.specs.declared.bundle.Bundle.{Bundle}
+use Rattle.arz_world.specs.declared.Request.{Request}
 use Rattle.arz_flow.specs.declared.answers.Ask.{Ask}
+use Rattle.arz_flow.specs.declared.answers.Ask.TheVariants.{Send}
 use Rattle.arz_flow.specs.declared.answers.Answer.{Answer}
 use Rattle.arz_flow.specs.declared.answers.End.{End}
-use Rattle.arz_flow.specs.declared.answers.End.TheVariants.{Out}
-use Rattle.arz_flow.specs.Play.{Spent}
+use Rattle.arz_flow.specs.declared.answers.End.TheVariants.{Out, Budget}
+use Rattle.arz_flow.specs.Play.{Spent, sends_in}
 use Rattle.arz_flow.specs.Executions.{fits, execution, fuel, whole, pace, HasPace, IsPrefixOf, asks, end, Fitting}
 use Rattle.arz_flow.specs.Valid.{IsValid}
 
@@ -30,3 +32,15 @@ OneMore = (b : Bundle) (r : List Answer) (q : Ask) (x : Answer) → Fitting b r 
 abbrev pub PrefixFits : Type 0
 PrefixFits = (b : Bundle) (p : List Answer) (x : Answer) (rest : List Answer) → Fitting b (p ++ x ∷ rest) →
     Fitting b p × ((q : Ask) × (end b p ≡ Some (Out q)) × (slice_get (asks b (p ++ x ∷ rest)) (length p) ≡ Some q) × (fits q x ≡ true) × IsPrefixOf (asks b p ++ q ∷ []) (asks b (p ++ x ∷ rest)))
+
+-- No more requests are sent than the bundle lets be sent.
+abbrev pub SendsKept : Type 0
+SendsKept = (b : Bundle) (r : List Answer) → sends_in (asks b r) ≤ b.max_attempts
+
+-- Where a request is next, fewer were sent.
+abbrev pub SendsLeft : Type 0
+SendsLeft = (b : Bundle) (r : List Answer) (q : Request) → end b r ≡ Some (Out (Send q)) → sends_in (asks b r) < b.max_attempts
+
+-- Where the execution ends for the budget, it tells the bundle's, and as many were sent.
+abbrev pub BudgetSpent : Type 0
+BudgetSpent = (b : Bundle) (r : List Answer) (n : ℕ) → end b r ≡ Some (Budget n) → (n ≡ b.max_attempts) × (sends_in (asks b r) ≡ b.max_attempts)

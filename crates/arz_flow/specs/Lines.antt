@@ -7,7 +7,7 @@ use Rattle.arz_world.specs.declared.Request.{Request}
 use Rattle.arz_flow.specs.declared.answers.Ask.{Ask}
 use Rattle.arz_flow.specs.declared.answers.Ask.TheVariants.{Send, Wait}
 use Rattle.arz_flow.specs.declared.answers.End.{End}
-use Rattle.arz_flow.specs.declared.answers.End.TheVariants.{Completed, Broke, Out, Stuck}
+use Rattle.arz_flow.specs.declared.answers.End.TheVariants.{Completed, Broke, Out, Stuck, Budget}
 use Rattle.arz_flow.specs.declared.answers.Cause.{Cause}
 use Rattle.arz_flow.specs.declared.answers.Cause.TheVariants as cause
 use Rattle.arz_flow.specs.declared.answers.Spot.{Spot}
@@ -42,3 +42,4 @@ line_of_end (Completed outputs) n = codes "completed"
 line_of_end (Broke outputs) n = codes "broke"
 line_of_end (Stuck cause at) n = codes "stuck " ++ cause_text cause ++ codes " " ++ spot_text at
 line_of_end (Out ask) n = codes "out " ++ decimal n ++ codes " " ++ ask_text ask
+line_of_end (Budget limit) n = codes "budget " ++ decimal limit

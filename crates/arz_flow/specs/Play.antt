@@ -1,5 +1,5 @@
 -- What a play is: what one case says, and how that is followed over given answers.
-use Rattle.std.specs.Prelude.{ℕ, max, zero, suc, ◌+◌, List, [], ◌∷◌, ◌++◌}
+use Rattle.std.specs.Prelude.{ℕ, max, zero, suc, ◌+◌, Bool, true, false, List, [], ◌∷◌, ◌++◌, filter, length}
 use Rattle.arz_json.specs.declared.Member.{Member}
 use Rattle.arz_world.specs.declared.Request.{Request}
 use Rattle.arz_world.specs.declared.Reply.{Reply}
@@ -15,10 +15,11 @@ pub data Result : Type 0 where
   Completed : List Member → Result
   Broke : List Member → Result
 
--- what ends everything, wherever it arises: a step that isn't there, or a cause at a place
+-- what ends everything, wherever it arises: a step that isn't there, a cause at a place, or a request past those that may be sent
 pub data Halt : Type 0 where
   NoStep : Halt
   Stuck : Cause → Spot → Halt
+  Budget : (limit : ℕ) → Halt
 
 -- one completed run of a workflow
 pub record Completion : Type 0 where
@@ -30,6 +31,14 @@ pub record Completion : Type 0 where
 pub record Seen : Type 0 where
   pub asked : List Ask
   pub done : List Completion
+
+abbrev pub is_send : Ask → Bool
+is_send (Send q) = true
+is_send (Wait n) = false
+
+-- how many of the asks sent a request
+abbrev pub sends_in : List Ask → ℕ
+sends_in asks = length (filter is_send asks)
 
 -- the state of a play
 pub record State : Type 0 where

@@ -55,4 +55,6 @@ pub enum End {
     Out(Ask),
     /// It can't go on at this place.
     Stuck(Cause, Spot),
+    /// A request is to be sent, and as many were sent as may be: this many.
+    Budget(u32),
 }

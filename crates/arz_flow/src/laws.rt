@@ -1,5 +1,5 @@
 //! The laws of asks and ends, which hold of each bundle. None of them has code.
-ghost use Rattle.arz_flow.specs.Laws.{OneEnd, HasEnd, AsManyAsks, OneMore, PrefixFits};
+ghost use Rattle.arz_flow.specs.Laws.{OneEnd, HasEnd, AsManyAsks, OneMore, PrefixFits, SendsKept, SendsLeft, BudgetSpent};
 
 /// The stated fuel suffices for each list of answers, and more of it gives the same play. Over
 /// answers that fit, a valid bundle's execution has an end.
@@ -19,4 +19,12 @@ pub fn l2()
 /// prefix has answers.
 pub fn l3()
     ensures { PrefixFits }
+{}
+
+/// The budget is kept: no execution sends more requests than its bundle lets be sent. One that ends
+/// as Budget has sent just as many, and one that lacks a reply has sent fewer.
+pub fn budget()
+    ensures kept { SendsKept }
+    ensures left { SendsLeft }
+    ensures spent { BudgetSpent }
 {}

@@ -52,6 +52,7 @@ pub fn end_line(alloc: Global, end: &End, n: u32) -> Result<Bytes, AllocError>
             let ask = ask.as_str();
             format!(in alloc; "out {n} {ask}")?
         }
+        End::Budget(limit) => format!(in alloc; "budget {limit}")?,
     };
     Ok(Bytes::from_std(line.into_bytes()))
 }

@@ -1,5 +1,5 @@
 -- What a run makes of a step.
-use Rattle.std.proofs.Common.{◌≡◌, ℕ, ◌<◌, List, [], length, codes, get_or, Result, Ok, Err, Option, None, Some, IfOk, refl, ap, sym, ◌∙◌, subst}
+use Rattle.std.proofs.Common.{◌≡◌, ℕ, ◌<◌, List, [], length, codes, get_or, Result, Ok, Err, Option, None, Some, IfOk, Bool, true, false, refl, ap, sym, ◌∙◌, subst}
 use Rattle.std.specs.Prelude.{slice_get}
 use Rattle.std.proofs.lemmas.Option.{slice_get-get_or, get_or_from_slice_get}
 use Rattle.arz_json.specs.Tree.{IsWithin}
@@ -10,7 +10,7 @@ use Rattle.arz_world.specs.declared.Reply.{Reply}
 use Rattle.arz_world.specs.declared.Request.{Request}
 use Rattle.arz_flow.specs.declared.answers.Cause.{Cause}
 use Rattle.arz_flow.specs.declared.answers.Spot.{Spot}
-use Rattle.arz_flow.specs.declared.answers.End.TheVariants.{Stuck}
+use Rattle.arz_flow.specs.declared.answers.End.TheVariants.{Stuck, Budget}
 use Rattle.arz_flow.specs.declared.bundle.Bundle.{Bundle}
 use Rattle.arz_flow.specs.declared.facts.Fact.{Fact}
 use Rattle.arz_flow.specs.Cases.{surroundings, spot, run_outputs, outputs_at_end}
@@ -27,7 +27,7 @@ use Rattle.arz_request.specs.declared.faults.BuildFault.{BuildFault}
 use Rattle.arz_request.specs.declared.faults.BuildFault.TheVariants.{Stuck as StuckFault}
 use Rattle.arz_scope.specs.Speaking.{Speaking, run_of as spoken_run, attempt_of}
 use Rattle.arz_machine.specs.Spoken.{spoken}
-use Rattle.arz_machine.specs.States.{Rest, Sends, Ended, run_of, rest_by, request_in, entered, next_fact}
+use Rattle.arz_machine.specs.States.{Sends, Ended, run_of, is_spent, rest_by, entered, next_fact}
 
 -- a step nests no deeper than the description
 pub step_shallow : (b : Bundle) (steps : List Json) (i : ℕ) (d : Json) → IsWithin 127 b.arazzo → steps ≡ steps_of b b.workflow → i < length steps → IsWithin 127 (get_or steps i d)
@@ -43,17 +43,24 @@ made_fact id outputs = record { step = id; outputs = outputs }
 module _ (b : Bundle) (facts : List Fact) (read step : Json) (same : read ≡ step) where
   -- what is made of the step that was read
   pub enters_as : (s : Speaking) (o : Operation) (sources : List Named) (made : Made Request) → s ≡ spoken b facts None → o ≡ operation_in sources read → sources ≡ b.sources
-      → request_by (found (spoken_run s) (attempt_of s.exchange)) o (parameters_of b.arazzo read) ≡ made → rest_by made (spot (run_of b facts) step) ≡ entered b facts step
+      → request_by (found (spoken_run s) (attempt_of s.exchange)) o (parameters_of b.arazzo read) ≡ made → rest_by b facts made (spot (run_of b facts) step) ≡ entered b facts step
   unfolding spoken
   enters_as s o sources made speaks op known e =
       let here = found (surroundings b (run_of b facts) []) Nothing in
-      ap (λ z. rest_by z (spot (run_of b facts) step))
+      ap (λ z. rest_by b facts z (spot (run_of b facts) step))
       (sym e
       ∙ ap (λ z. request_by (found (spoken_run z) (attempt_of z.exchange)) o (parameters_of b.arazzo read)) speaks
       ∙ ap (λ z. request_by here z (parameters_of b.arazzo read)) (op ∙ ap (λ l. operation_in l read) known)
       ∙ ap (λ z. request_by here (operation_in b.sources z) (parameters_of b.arazzo z)) same)
 
-  pub stuck_at : (at_read : Spot) (cause : Cause) → at_read ≡ spot (run_of b facts) read → Ended (Stuck cause at_read) ≡ rest_by (Err cause) (spot (run_of b facts) step)
+  -- a request that is made, where the budget lasts and where it is spent
+  pub sent_by : (spent : Bool) (q : Request) → spent ≡ is_spent b facts → spent ≡ false → Sends q ≡ rest_by b facts (Ok q) (spot (run_of b facts) step)
+  sent_by spent q is lasts = rw (sym is ∙ lasts) refl
+
+  pub spent_by : (spent : Bool) (q : Request) → spent ≡ is_spent b facts → spent ≡ true → Ended (Budget b.max_attempts) ≡ rest_by b facts (Ok q) (spot (run_of b facts) step)
+  spent_by spent q is over = rw (sym is ∙ over) refl
+
+  pub stuck_at : (at_read : Spot) (cause : Cause) → at_read ≡ spot (run_of b facts) read → Ended (Stuck cause at_read) ≡ rest_by b facts (Err cause) (spot (run_of b facts) step)
   stuck_at at_read cause e = ap (λ z. Ended (Stuck cause z)) (e ∙ ap (spot (run_of b facts)) same)
 
   -- the cause why there is no request

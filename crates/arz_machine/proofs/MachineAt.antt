@@ -1,5 +1,5 @@
 -- What an execution comes to where the machine stands in it.
-use Rattle.std.proofs.Common.{◌≡◌, ℕ, zero, suc, ◌+◌, ◌<◌, ◌≤◌, List, [], ◌∷◌, ◌++◌, length, length-append, Bool, true, false, nat_lt, Option, None, Some, refl, ap, sym, ◌∙◌, subst, arith}
+use Rattle.std.proofs.Common.{◌≡◌, ℕ, zero, suc, ◌+◌, ◌<◌, List, [], ◌∷◌, ◌++◌, length, length-append, Bool, true, false, nat_lt, Option, None, Some, refl, ap, sym, ◌∙◌, subst, arith}
 use Rattle.std.specs.Prelude.{slice_get}
 use Rattle.std.proofs.lemmas.Bool.{ltb-true}
 use Rattle.arz_json.specs.declared.Json.{Json}
@@ -17,7 +17,7 @@ use Rattle.arz_flow.specs.Documents.{steps_of}
 use Rattle.arz_flow.specs.Executions.{end, Fitting}
 use Rattle.arz_flow.specs.Valid.{IsValid}
 use Rattle.arz_machine.specs.States.{Rest, Sends, Ended, is_sending, has_step, entered, next_fact, goes_to}
-use Rattle.arz_machine.specs.Rests.{IsSending, IsOver, Rests, takes}
+use Rattle.arz_machine.specs.Rests.{IsOver, Rests, takes}
 use Rattle.arz_machine.specs.At.{Standing, At}
 use Rattle.arz_machine.proofs.Turning.{begins, goes_next, sending_out, rests_fitting, over_takes, sending_takes, no_served}
 

@@ -4,7 +4,7 @@ use Rattle.arz_json.specs.Tree.{has_form, depth, max_depth, has_opaque}
 use Rattle.arz_json.specs.declared.Json.TheVariants.{Object}
 use Rattle.arz_json.specs.declared.Member.{Member}
 use Rattle.arz_flow.specs.declared.answers.End.{End}
-use Rattle.arz_flow.specs.declared.answers.End.TheVariants.{Completed, Broke, Out, Stuck}
+use Rattle.arz_flow.specs.declared.answers.End.TheVariants.{Completed, Broke, Out, Stuck, Budget}
 use Rattle.arz_machine.specs.States.{Rest, Sends, Ended}
 
 -- the object of these members is well-formed, and no number with a fraction is inside
@@ -16,6 +16,7 @@ has_plain_outputs (Completed outputs) = are_plain outputs
 has_plain_outputs (Broke outputs) = are_plain outputs
 has_plain_outputs (Out ask) = true
 has_plain_outputs (Stuck cause at) = true
+has_plain_outputs (Budget limit) = true
 
 abbrev pub is_plain : Rest → Bool
 is_plain (Sends q) = true

@@ -1,14 +1,14 @@
 -- Where an execution rests.
-use Rattle.std.specs.Prelude.{ℕ, ◌≡◌, true, false, Bool, List, [], ◌∷◌, slice_get, Option, Some, None}
+use Rattle.std.specs.Prelude.{ℕ, ◌≡◌, true, false, Bool, List, [], ◌∷◌, slice_get, length, Option, Some, None}
 use Rattle.arz_json.specs.declared.Json.{Json}
 use Rattle.arz_world.specs.declared.Request.{Request}
 use Rattle.arz_flow.specs.declared.answers.Answer.{Answer}
 use Rattle.arz_flow.specs.declared.answers.End.{End}
-use Rattle.arz_flow.specs.declared.answers.End.TheVariants.{Completed, Broke, Out, Stuck}
+use Rattle.arz_flow.specs.declared.answers.End.TheVariants.{Completed, Broke, Out, Stuck, Budget}
 use Rattle.arz_flow.specs.declared.bundle.Bundle.{Bundle}
 use Rattle.arz_flow.specs.declared.facts.Fact.{Fact}
 use Rattle.arz_flow.specs.Documents.{steps_of}
-use Rattle.arz_flow.specs.Play.{Sends as SendsNext}
+use Rattle.arz_flow.specs.Play.{Sends as SendsNext, sends_in}
 use Rattle.arz_flow.specs.Cases.{after_run, after_reply}
 use Rattle.arz_flow.specs.Executions.{fits, end, Fitting}
 use Rattle.arz_flow.specs.Stands.{Follow, Past, Stands}
@@ -24,6 +24,7 @@ pub record IsSending (b : Bundle) (facts : List Fact) (i : ℕ) (q : Request) (r
   pub there : slice_get (steps_of b b.workflow) i ≡ Some step
   pub past : Past
   pub fresh : past.done ≡ []
+  pub counted : sends_in past.asked ≡ length facts
   pub stands : Stands b (SendsNext q (after_reply b (run_of b facts) i step q)) (open_runs b) past r
 
 -- the end lacks an answer
@@ -32,6 +33,7 @@ lacks_answer (Out q) = true
 lacks_answer (Completed outputs) = false
 lacks_answer (Broke outputs) = false
 lacks_answer (Stuck cause at) = false
+lacks_answer (Budget limit) = false
 
 -- the execution has ended
 pub record IsOver (b : Bundle) (e : End) (r : List Answer) : Type 0 where
@@ -49,4 +51,5 @@ takes None a = false
 takes (Some (Completed outputs)) a = false
 takes (Some (Broke outputs)) a = false
 takes (Some (Stuck cause at)) a = false
+takes (Some (Budget limit)) a = false
 takes (Some (Out q)) a = fits q a

@@ -1,12 +1,12 @@
 -- Where an execution rests next.
-use Rattle.std.specs.Prelude.{ℕ, nat_lt, Bool, true, false, List, []}
+use Rattle.std.specs.Prelude.{ℕ, ◌==◌, nat_lt, if◌then◌else◌, Bool, true, false, List, [], length}
 use Rattle.std.specs.declared.option.Option.{Option}
 use Rattle.std.specs.declared.option.Option.TheVariants.{None, Some}
 use Rattle.std.specs.declared.result.Result.TheVariants.{Ok, Err}
 use Rattle.arz_json.specs.declared.Json.{Json}
 use Rattle.arz_world.specs.declared.Reply.{Reply}
 use Rattle.arz_world.specs.declared.Request.{Request}
-use Rattle.arz_flow.specs.declared.answers.End.TheVariants.{Stuck}
+use Rattle.arz_flow.specs.declared.answers.End.TheVariants.{Stuck, Budget}
 use Rattle.arz_flow.specs.declared.answers.Spot.{Spot}
 use Rattle.arz_flow.specs.declared.bundle.Bundle.{Bundle}
 use Rattle.arz_flow.specs.declared.facts.Fact.{Fact}
@@ -36,17 +36,21 @@ has_step (Ended e) step count = true
 abbrev pub run_of : Bundle → List Fact → Run
 run_of b facts = record { workflow = b.workflow; inputs = b.inputs; facts = facts }
 
--- a request that is to be sent, or the end at this place
-abbrev pub rest_by : Made Request → Spot → Rest
-rest_by (Ok q) at = Sends q
-rest_by (Err cause) at = Ended (Stuck cause at)
+-- each attempt sent a request and left its fact: whether as many were sent as may be
+abbrev pub is_spent : Bundle → List Fact → Bool
+is_spent b facts = length facts == b.max_attempts
+
+-- a request that is to be sent where one more may be, or the end at this place
+abbrev pub rest_by : Bundle → List Fact → Made Request → Spot → Rest
+rest_by b facts (Ok q) at = if is_spent b facts then Ended (Budget b.max_attempts) else Sends q
+rest_by b facts (Err cause) at = Ended (Stuck cause at)
 
 -- the request of a step that is entered after these facts
 abbrev pub request_in : Bundle → List Fact → Json → Made Request
 request_in b facts step = request_of b (found (surroundings b (run_of b facts) []) Nothing) step
 
 abbrev pub entered : Bundle → List Fact → Json → Rest
-entered b facts step = rest_by (request_in b facts step) (spot (run_of b facts) step)
+entered b facts step = rest_by b facts (request_in b facts step) (spot (run_of b facts) step)
 
 -- the fact of an attempt after these facts
 abbrev pub next_fact : Bundle → List Fact → Json → Request → Reply → Fact

@@ -9,7 +9,7 @@ ghost use Rattle.arz_flow.specs.Valid.{IsValid};
 ghost use Rattle.arz_machine.specs.Plain.{is_plain};
 ghost use Rattle.arz_machine.specs.Resting.{rest_of};
 ghost use Rattle.arz_machine.specs.Spoken.{spoken};
-ghost use Rattle.arz_machine.specs.States.{has_step, run_of, entered, closed, goes_to, next_fact};
+ghost use Rattle.arz_machine.specs.States.{has_step, run_of, is_spent, entered, closed, goes_to, next_fact};
 
 use crate::run::Run;
 use crate::state::{Ready, State};
@@ -48,6 +48,7 @@ impl<'a> Run<'a> {
         let scope = self.scope(None)?;
         let operation = self.operations.operation_of(step);
         match request(self.alloc, &operation, &self.bundle.arazzo, step, &scope) {
+            Ok(_) if self.is_spent() => Ok(State::Ended(End::Budget(self.bundle.max_attempts))),
             Ok(request) => Ok(State::Sends(Ready { request })),
             Err(BuildFault::Stuck(cause)) => Ok(State::Ended(End::Stuck(cause, self.spot(step)?))),
             Err(BuildFault::Memory) => Err(AllocError),
@@ -66,7 +67,7 @@ impl<'a> Run<'a> {
         let scope = self.scope(Some(&exchange))?;
         let outputs = outputs(self.alloc, step, &scope)?;
         Ok(Fact {
-            step: text(self.alloc, text_at(step, "stepId"))?,
+            step: Text::from_str(self.alloc, text_at(step, "stepId"))?,
             outputs,
         })
     }
@@ -114,7 +115,7 @@ impl<'a> Run<'a> {
     {
         let outputs = self.outputs()?;
         if any_opaque(outputs.as_slice()) {
-            let workflow = text(self.alloc, self.bundle.workflow.as_str())?;
+            let workflow = Text::from_str(self.alloc, self.bundle.workflow.as_str())?;
             let spot = Spot {
                 workflow,
                 step: None,
@@ -140,6 +141,13 @@ impl<'a> Run<'a> {
         outputs(self.alloc, workflow, &scope)
     }
 
+    // Whether as many requests were sent as may be. Each attempt sent one and left its fact.
+    fn is_spent(&self) -> bool
+        ensures { result ≡ is_spent self.now.bundle.now self.now.facts }
+    {
+        self.facts.len() == self.bundle.max_attempts as usize
+    }
+
     // What the run's expressions speak of.
     fn scope<'s>(&'s self, exchange: Option<&'s Exchange<'s>>) -> Result<RunScope<'s>, AllocError>
         ensures { IfOk result (λ s. s ≡ spoken self.now.bundle.now self.now.facts (option_copied exchange.entry)) }
@@ -160,14 +168,8 @@ impl<'a> Run<'a> {
         ensures { IfOk result (λ spot. spot ≡ spot_of (run_of self.now.bundle.now self.now.facts) step.now) }
     {
         Ok(Spot {
-            workflow: text(self.alloc, self.bundle.workflow.as_str())?,
-            step: Some(text(self.alloc, text_at(step, "stepId"))?),
+            workflow: Text::from_str(self.alloc, self.bundle.workflow.as_str())?,
+            step: Some(Text::from_str(self.alloc, text_at(step, "stepId"))?),
         })
     }
-}
-
-fn text(alloc: Global, bytes: &str) -> Result<Text, AllocError>
-    ensures { IfOk result (λ text. text ≡ bytes.now) }
-{
-    Ok(Text::from_std(String::from_str(alloc, bytes)?))
 }

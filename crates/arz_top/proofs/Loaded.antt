@@ -1,5 +1,5 @@
 -- What two calls in a row come to, of which one loads the bundle and the other the replies.
-use Rattle.std.proofs.Common.{◌≡◌, ◌≤◌, ℕ, List, Result, Ok, Err}
+use Rattle.std.proofs.Common.{ℕ, List, Result, Ok, Err}
 use Rattle.arz_world.specs.Outside.{FilesView}
 use Rattle.arz_world.specs.declared.Reply.{Reply}
 use Rattle.arz_flow.specs.declared.bundle.Bundle.{Bundle}

@@ -1,14 +1,14 @@
 -- Over files that tell what they hold, and where no read failed, files give one result.
-use Rattle.std.proofs.Common.{◌≡◌, ◌≢◌, ◌⊎◌, inl, inr, ◌++◌, ℕ, List, codes, Bool, true, false, None, Some, Result, Ok, Err, refl, sym, ◌∙◌, subst}
+use Rattle.std.proofs.Common.{◌≡◌, ◌≢◌, inl, inr, ◌++◌, ℕ, List, codes, Bool, true, false, None, Some, Result, Ok, Err, refl, sym, ◌∙◌, subst}
 use Rattle.arz_json.specs.declared.Json.{Json}
 use Rattle.arz_json.proofs.Readings.{Reads-unique}
-use Rattle.arz_world.specs.Outside.{FilesView, ReadsAs, Rose, Told}
+use Rattle.arz_world.specs.Outside.{FilesView, ReadsAs, Told}
 use Rattle.arz_world.specs.declared.Reply.{Reply}
 use Rattle.arz_flow.specs.declared.bundle.Bundle.{Bundle}
 use Rattle.arz_bundle.specs.declared.fault.LoadFault.{LoadFault}
-use Rattle.arz_bundle.specs.declared.fault.LoadFault.TheVariants.{File, Refused, Memory}
+use Rattle.arz_bundle.specs.declared.fault.LoadFault.TheVariants.{Memory}
 use Rattle.arz_bundle.specs.Forms.{is_setup, is_description, is_source, are_replies}
-use Rattle.arz_bundle.specs.Loading.{file_limit, IsFile, not_built, description_path, source_name, source_path, bundle_of, Formed, Reading, FromSource, FromDescription, Loads, Gives_replies}
+use Rattle.arz_bundle.specs.Loading.{file_limit, description_path, source_name, source_path, bundle_of, Formed, Reading, FromSource, FromDescription, Loads, Gives_replies}
 use Rattle.arz_bundle.specs.Replies.{replies_of}
 use Rattle.arz_top.specs.Steady.{IsSteady}
 

@@ -1,5 +1,5 @@
 -- The words come to one ending.
-use Rattle.std.proofs.Common.{◌≡◌, ◌≢◌, ℕ, List, length, ◌≤◌, Bool, true, Result, Ok, Err, refl, sym, ◌∙◌, ap, subst}
+use Rattle.std.proofs.Common.{◌≡◌, ◌≢◌, ℕ, List, length, ◌≤◌, true, Result, Ok, Err, sym, ◌∙◌, ap, subst}
 use denote.Struct.Props.{props}
 use Rattle.arz_world.specs.Outside.{FilesView}
 use Rattle.arz_world.specs.declared.Reply.{Reply}
@@ -10,19 +10,17 @@ use Rattle.arz_flow.specs.Valid.{steps_limit}
 use Rattle.arz_machine.specs.Plain.{has_plain_outputs}
 use Rattle.arz_bundle.specs.declared.fault.LoadFault.{LoadFault}
 use Rattle.arz_bundle.specs.declared.fault.LoadFault.TheVariants.{File as FileFault, Refused as RefusedFault, Memory}
-use Rattle.arz_bundle.specs.Loading.{Loads, Gives_replies}
 use Rattle.arz_session.specs.Mock.{IsMock, answers, lines_of}
 use Rattle.arz_session.specs.declared.session.Line.{Line}
 use Rattle.arz_session.specs.declared.session.Session.{Session}
-use Rattle.arz_top.specs.declared.words.Command.{Command}
 use Rattle.arz_top.specs.declared.words.Command.TheVariants.{Mock, Unknown}
 use Rattle.arz_top.specs.declared.ending.Ending.{Ending}
-use Rattle.arz_top.specs.declared.ending.Ending.TheVariants.{Words, File, Refused, Played}
-use Rattle.arz_top.specs.Endings.{Faulted, Plays, FromBundle, Mocks, Comes}
+use Rattle.arz_top.specs.declared.ending.Ending.TheVariants.{Played}
+use Rattle.arz_top.specs.Endings.{Faulted, Plays, FromBundle, Mocks}
 use Rattle.arz_top.specs.Laws.{OneEnding}
 use Rattle.arz_top.specs.Steady.{IsSteady}
 use Rattle.arz_top.proofs.Fronts.{one_front, one_end}
-use Rattle.arz_top.proofs.Once.{IsOne, loads-one, replies-one}
+use Rattle.arz_top.proofs.Once.{loads-one, replies-one}
 
 -- executions of the same lines and end are one
 few_prop : (lines : List Line) → IsProp (length lines ≤ steps_limit)

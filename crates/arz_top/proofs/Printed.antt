@@ -1,11 +1,11 @@
 -- What the sink holds after the line `memory` was tried.
-use Rattle.std.proofs.Common.{◌≡◌, ◌⊎◌, inl, inr, ◌++◌, ℕ, List, [], ◌∷◌, codes, refl, ap, append_assoc, sym, ◌∙◌}
+use Rattle.std.proofs.Common.{◌≡◌, inl, inr, ◌++◌, ℕ, List, [], codes, refl, ap, append_assoc, ◌∙◌}
 use Rattle.std.specs.declared.option.Option.{Option}
 use Rattle.std.specs.declared.option.Option.TheVariants.{None, Some}
-use Rattle.arz_world.specs.Outside.{Gains, IsPrefix, Rose, SinkView}
+use Rattle.arz_world.specs.Outside.{Gains, IsPrefix, SinkView}
 use Rattle.arz_top.specs.declared.ending.Ending.{Ending}
 use Rattle.arz_top.specs.Report.{line, report}
-use Rattle.arz_top.specs.Ends.{Ends, Whole, Cut, RanOut, PartThenMemory}
+use Rattle.arz_top.specs.Ends.{Ends, PartThenMemory}
 
 -- what is gained is also of a wider kind
 pub Gains-wider : (P Q : List ℕ → Type 0) (before now : Option (List ℕ)) → ((added : List ℕ) → P added → Q added) → Gains before now P → Gains before now Q

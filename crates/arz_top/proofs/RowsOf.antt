@@ -1,5 +1,5 @@
 -- The rows follow from how a call ends.
-use Rattle.std.proofs.Common.{◌≡◌, ◌≢◌, ◌⊎◌, inl, inr, ◌++◌, ℕ, List, codes, refl, sym, ◌∙◌, ap, arith, subst, Result, Ok, Err}
+use Rattle.std.proofs.Common.{◌≡◌, inl, inr, ℕ, List, refl, sym, ◌∙◌, ap, arith, subst, Result, Ok, Err}
 use Rattle.arz_json.specs.declared.Member.{Member}
 use Rattle.arz_json.specs.declared.Refusal.{Refusal}
 use Rattle.arz_world.specs.Outside.{Gains, Rose, FilesView, SinkView}
@@ -8,7 +8,7 @@ use Rattle.arz_flow.specs.declared.answers.Ask.{Ask}
 use Rattle.arz_flow.specs.declared.answers.Cause.{Cause}
 use Rattle.arz_flow.specs.declared.answers.Spot.{Spot}
 use Rattle.arz_flow.specs.declared.answers.End.{End}
-use Rattle.arz_flow.specs.declared.answers.End.TheVariants.{Completed, Broke, Out, Stuck}
+use Rattle.arz_flow.specs.declared.answers.End.TheVariants.{Completed, Broke, Out, Stuck, Budget}
 use Rattle.arz_flow.specs.declared.bundle.Bundle.{Bundle}
 use Rattle.arz_bundle.specs.declared.fault.LoadFault.{LoadFault}
 use Rattle.arz_bundle.specs.declared.fault.LoadFault.TheVariants.{File as FileFault, Refused as RefusedFault, Memory}
@@ -20,43 +20,54 @@ use Rattle.arz_session.specs.declared.session.Session.{Session}
 use Rattle.arz_top.specs.declared.ending.Ending.{Ending}
 use Rattle.arz_top.specs.declared.ending.Ending.TheVariants.{Words, File, Refused, Played}
 use Rattle.arz_top.specs.Endings.{Faulted, Plays, FromBundle, Mocks, Comes}
-use Rattle.arz_top.specs.Report.{line, report, status, end_status, refusal_line}
-use Rattle.arz_top.specs.Ends.{Ends, Whole, Cut, RanOut}
+use Rattle.arz_top.specs.Report.{report, status, end_status}
+use Rattle.arz_top.specs.Ends.{Ends, Whole}
 use Rattle.arz_top.specs.Rows.{Rows}
 use Rattle.arz_top.specs.Exact.{Exact}
-use Rattle.arz_top.specs.Steady.{IsSteady}
 use Rattle.arz_top.proofs.OneEnding.{one_ending}
 
 -- ---- which ending has which status
 
 -- an end has one of these statuses
-not : (x : End) (n : ℕ) → (0 ≡ n → ⊥) → (1 ≡ n → ⊥) → (7 ≡ n → ⊥) → (14 ≡ n → ⊥) → end_status x ≡ n → ⊥
-not (Completed outputs) n a b c d st = a st
-not (Broke outputs) n a b c d st = b st
-not (Stuck cause at) n a b c d st = c st
-not (Out ask) n a b c d st = d st
+not : (x : End) (n : ℕ) → (0 ≡ n → ⊥) → (1 ≡ n → ⊥) → (6 ≡ n → ⊥) → (7 ≡ n → ⊥) → (14 ≡ n → ⊥) → end_status x ≡ n → ⊥
+not (Completed outputs) n a b c d e st = a st
+not (Broke outputs) n a b c d e st = b st
+not (Budget limit) n a b c d e st = c st
+not (Stuck cause at) n a b c d e st = d st
+not (Out ask) n a b c d e st = e st
 
 ended-0 : (s : Session) (x : End) → s.end ≡ x → end_status x ≡ 0 → (outputs : List Member) × (s.end ≡ Completed outputs)
 ended-0 s (Completed outputs) is st = (outputs, is)
 ended-0 s (Broke outputs) is st = absurd (omega (arith, st))
+ended-0 s (Budget limit) is st = absurd (omega (arith, st))
 ended-0 s (Stuck cause at) is st = absurd (omega (arith, st))
 ended-0 s (Out ask) is st = absurd (omega (arith, st))
 
 ended-1 : (s : Session) (x : End) → s.end ≡ x → end_status x ≡ 1 → (outputs : List Member) × (s.end ≡ Broke outputs)
 ended-1 s (Completed outputs) is st = absurd (omega (arith, st))
 ended-1 s (Broke outputs) is st = (outputs, is)
+ended-1 s (Budget limit) is st = absurd (omega (arith, st))
 ended-1 s (Stuck cause at) is st = absurd (omega (arith, st))
 ended-1 s (Out ask) is st = absurd (omega (arith, st))
+
+ended-6 : (s : Session) (x : End) → s.end ≡ x → end_status x ≡ 6 → (limit : ℕ) × (s.end ≡ Budget limit)
+ended-6 s (Completed outputs) is st = absurd (omega (arith, st))
+ended-6 s (Broke outputs) is st = absurd (omega (arith, st))
+ended-6 s (Budget limit) is st = (limit, is)
+ended-6 s (Stuck cause at) is st = absurd (omega (arith, st))
+ended-6 s (Out ask) is st = absurd (omega (arith, st))
 
 ended-7 : (s : Session) (x : End) → s.end ≡ x → end_status x ≡ 7 → (cause : Cause) × (at : Spot) × (s.end ≡ Stuck cause at)
 ended-7 s (Completed outputs) is st = absurd (omega (arith, st))
 ended-7 s (Broke outputs) is st = absurd (omega (arith, st))
+ended-7 s (Budget limit) is st = absurd (omega (arith, st))
 ended-7 s (Stuck cause at) is st = (cause, at, is)
 ended-7 s (Out ask) is st = absurd (omega (arith, st))
 
 ended-14 : (s : Session) (x : End) → s.end ≡ x → end_status x ≡ 14 → (ask : Ask) × (s.end ≡ Out ask)
 ended-14 s (Completed outputs) is st = absurd (omega (arith, st))
 ended-14 s (Broke outputs) is st = absurd (omega (arith, st))
+ended-14 s (Budget limit) is st = absurd (omega (arith, st))
 ended-14 s (Stuck cause at) is st = absurd (omega (arith, st))
 ended-14 s (Out ask) is st = (ask, is)
 
@@ -72,6 +83,12 @@ at-1 (File path) st = absurd (omega (arith, st))
 at-1 (Refused refusal) st = absurd (omega (arith, st))
 at-1 (Played s) st = let o = ended-1 s s.end refl st in (s, o.0, refl, o.1)
 
+at-6 : (e : Ending) → status e ≡ 6 → (s : Session) × (limit : ℕ) × (e ≡ Played s) × (s.end ≡ Budget limit)
+at-6 Words st = absurd (omega (arith, st))
+at-6 (File path) st = absurd (omega (arith, st))
+at-6 (Refused refusal) st = absurd (omega (arith, st))
+at-6 (Played s) st = let o = ended-6 s s.end refl st in (s, o.0, refl, o.1)
+
 at-7 : (e : Ending) → status e ≡ 7 → (s : Session) × (cause : Cause) × (at : Spot) × (e ≡ Played s) × (s.end ≡ Stuck cause at)
 at-7 Words st = absurd (omega (arith, st))
 at-7 (File path) st = absurd (omega (arith, st))
@@ -82,13 +99,13 @@ at-3 : (e : Ending) → status e ≡ 3 → (refusal : Refusal) × (e ≡ Refused
 at-3 Words st = absurd (omega (arith, st))
 at-3 (File path) st = absurd (omega (arith, st))
 at-3 (Refused refusal) st = (refusal, refl)
-at-3 (Played s) st = absurd (not s.end 3 (λ h. omega (arith, h)) (λ h. omega (arith, h)) (λ h. omega (arith, h)) (λ h. omega (arith, h)) st)
+at-3 (Played s) st = absurd (not s.end 3 (λ h. omega (arith, h)) (λ h. omega (arith, h)) (λ h. omega (arith, h)) (λ h. omega (arith, h)) (λ h. omega (arith, h)) st)
 
 at-13 : (e : Ending) → status e ≡ 13 → (path : List ℕ) × (e ≡ File path)
 at-13 Words st = absurd (omega (arith, st))
 at-13 (File path) st = (path, refl)
 at-13 (Refused refusal) st = absurd (omega (arith, st))
-at-13 (Played s) st = absurd (not s.end 13 (λ h. omega (arith, h)) (λ h. omega (arith, h)) (λ h. omega (arith, h)) (λ h. omega (arith, h)) st)
+at-13 (Played s) st = absurd (not s.end 13 (λ h. omega (arith, h)) (λ h. omega (arith, h)) (λ h. omega (arith, h)) (λ h. omega (arith, h)) (λ h. omega (arith, h)) st)
 
 at-14 : (e : Ending) → status e ≡ 14 → (s : Session) × (ask : Ask) × (e ≡ Played s) × (s.end ≡ Out ask)
 at-14 Words st = absurd (omega (arith, st))
@@ -101,7 +118,7 @@ never-10 : (e : Ending) → status e ≡ 10 → ⊥
 never-10 Words st = omega (arith, st)
 never-10 (File path) st = omega (arith, st)
 never-10 (Refused refusal) st = omega (arith, st)
-never-10 (Played s) st = not s.end 10 (λ h. omega (arith, h)) (λ h. omega (arith, h)) (λ h. omega (arith, h)) (λ h. omega (arith, h)) st
+never-10 (Played s) st = not s.end 10 (λ h. omega (arith, h)) (λ h. omega (arith, h)) (λ h. omega (arith, h)) (λ h. omega (arith, h)) (λ h. omega (arith, h)) st
 
 -- ---- what a command comes to
 
@@ -137,7 +154,7 @@ module _ (files files_now : FilesView) where
   not-words Words c st = c
   not-words (File path) c st = omega (arith, st)
   not-words (Refused refusal) c st = omega (arith, st)
-  not-words (Played s) c st = not s.end 2 (λ h. omega (arith, h)) (λ h. omega (arith, h)) (λ h. omega (arith, h)) (λ h. omega (arith, h)) st
+  not-words (Played s) c st = not s.end 2 (λ h. omega (arith, h)) (λ h. omega (arith, h)) (λ h. omega (arith, h)) (λ h. omega (arith, h)) (λ h. omega (arith, h)) st
 
   words-only : (command : Command) (e : Ending) → Comes files files_now command e → status e ≡ 2 → command ≡ Unknown
   words-only Unknown e came st = refl
@@ -157,6 +174,7 @@ exactly Came answer e answered one = record {
   broke = λ s outputs came is. answered ∙ ap status (one (Played s) came) ∙ ap end_status is;
   words = λ came. answered ∙ ap status (one Words came);
   refused = λ refusal came. answered ∙ ap status (one (Refused refusal) came);
+  budget = λ s limit came is. answered ∙ ap status (one (Played s) came) ∙ ap end_status is;
   stuck = λ s cause at came is. answered ∙ ap status (one (Played s) came) ∙ ap end_status is;
   out = λ s ask came is. answered ∙ ap status (one (Played s) came) ∙ ap end_status is;
 }
@@ -169,6 +187,7 @@ module _ (files files_now : FilesView) (command : Command) (sink sink_now : Sink
   rows_whole w = record {
     completed = λ is. let r = at-0 w.ending (sym w.answered ∙ is) in (r.0, r.1, subst Came r.2 w.came, r.3);
     broke = λ is. let r = at-1 w.ending (sym w.answered ∙ is) in (r.0, r.1, subst Came r.2 w.came, r.3);
+    budget = λ is. let r = at-6 w.ending (sym w.answered ∙ is) in (r.0, r.1, subst Came r.2 w.came, r.3);
     stuck = λ is. let r = at-7 w.ending (sym w.answered ∙ is) in (r.0, r.1, r.2, subst Came r.3 w.came, r.4);
     words = λ is. words-only files files_now command w.ending w.came (sym w.answered ∙ is);
     no_command = λ none. inl (w.answered ∙ words-status files files_now w.ending (subst (λ k. Comes files files_now k w.ending) none w.came));
@@ -187,6 +206,7 @@ module _ (files files_now : FilesView) (command : Command) (sink sink_now : Sink
   rows (inr (inl w)) = record {
     completed = λ is. absurd (omega (arith, w.answered, is));
     broke = λ is. absurd (omega (arith, w.answered, is));
+    budget = λ is. absurd (omega (arith, w.answered, is));
     stuck = λ is. absurd (omega (arith, w.answered, is));
     words = λ is. absurd (omega (arith, w.answered, is));
     no_command = λ none. inr (inl w.answered);
@@ -201,6 +221,7 @@ module _ (files files_now : FilesView) (command : Command) (sink sink_now : Sink
   rows (inr (inr w)) = record {
     completed = λ is. absurd (omega (arith, w.answered, is));
     broke = λ is. absurd (omega (arith, w.answered, is));
+    budget = λ is. absurd (omega (arith, w.answered, is));
     stuck = λ is. absurd (omega (arith, w.answered, is));
     words = λ is. absurd (omega (arith, w.answered, is));
     no_command = λ none. inr (inr w.answered);

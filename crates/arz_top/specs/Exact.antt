@@ -5,7 +5,7 @@ use Rattle.arz_json.specs.declared.Refusal.{Refusal}
 use Rattle.arz_flow.specs.declared.answers.Ask.{Ask}
 use Rattle.arz_flow.specs.declared.answers.Cause.{Cause}
 use Rattle.arz_flow.specs.declared.answers.Spot.{Spot}
-use Rattle.arz_flow.specs.declared.answers.End.TheVariants.{Completed, Broke, Out, Stuck}
+use Rattle.arz_flow.specs.declared.answers.End.TheVariants.{Completed, Broke, Out, Stuck, Budget}
 use Rattle.arz_session.specs.declared.session.Session.{Session}
 use Rattle.arz_top.specs.declared.ending.Ending.{Ending}
 use Rattle.arz_top.specs.declared.ending.Ending.TheVariants.{Words, Refused, Played}
@@ -16,5 +16,6 @@ pub record Exact (Came : Ending → Type 0) (answer : ℕ) : Type 0 where
   pub broke : (s : Session) (outputs : List Member) → Came (Played s) → s.end ≡ Broke outputs → answer ≡ 1
   pub words : Came Words → answer ≡ 2
   pub refused : (refusal : Refusal) → Came (Refused refusal) → answer ≡ 3
+  pub budget : (s : Session) (limit : ℕ) → Came (Played s) → s.end ≡ Budget limit → answer ≡ 6
   pub stuck : (s : Session) (cause : Cause) (at : Spot) → Came (Played s) → s.end ≡ Stuck cause at → answer ≡ 7
   pub out : (s : Session) (ask : Ask) → Came (Played s) → s.end ≡ Out ask → answer ≡ 14

@@ -9,7 +9,7 @@ use Rattle.arz_json.specs.Writing.{data_of}
 use Rattle.arz_json.specs.declared.Json.TheVariants.{Object}
 use Rattle.arz_json.specs.declared.Refusal.{Refusal}
 use Rattle.arz_flow.specs.declared.answers.End.{End}
-use Rattle.arz_flow.specs.declared.answers.End.TheVariants.{Completed, Broke, Out, Stuck}
+use Rattle.arz_flow.specs.declared.answers.End.TheVariants.{Completed, Broke, Out, Stuck, Budget}
 use Rattle.arz_flow.specs.Lines.{line_of_end}
 use Rattle.arz_session.specs.declared.session.How.{How}
 use Rattle.arz_session.specs.declared.session.How.TheVariants.{Held, Sent, Served, Mock}
@@ -45,6 +45,7 @@ outputs_line (Completed outputs) = line (compact_text (data_of (Object outputs))
 outputs_line (Broke outputs) = line (compact_text (data_of (Object outputs)))
 outputs_line (Out ask) = []
 outputs_line (Stuck cause at) = []
+outputs_line (Budget limit) = []
 
 -- a line for each ask, the end's line, and the outputs
 abbrev pub session_report : Session → List ℕ
@@ -74,6 +75,7 @@ end_status (Completed outputs) = 0
 end_status (Broke outputs) = 1
 end_status (Out ask) = 14
 end_status (Stuck cause at) = 7
+end_status (Budget limit) = 6
 
 -- what is answered
 abbrev pub status : Ending → ℕ

@@ -6,7 +6,7 @@ use Rattle.arz_world.specs.Outside.{Gains, Rose, FilesView, SinkView}
 use Rattle.arz_flow.specs.declared.answers.Ask.{Ask}
 use Rattle.arz_flow.specs.declared.answers.Cause.{Cause}
 use Rattle.arz_flow.specs.declared.answers.Spot.{Spot}
-use Rattle.arz_flow.specs.declared.answers.End.TheVariants.{Completed, Broke, Out, Stuck}
+use Rattle.arz_flow.specs.declared.answers.End.TheVariants.{Completed, Broke, Out, Stuck, Budget}
 use Rattle.arz_top.specs.declared.words.Command.{Command}
 use Rattle.arz_top.specs.declared.words.Command.TheVariants.{Unknown}
 use Rattle.arz_session.specs.declared.session.Session.{Session}
@@ -28,6 +28,8 @@ pub record Rows (files files_now : FilesView) (command : Command) (sink sink_now
   pub no_command : command ≡ Unknown → (answer ≡ 2) ⊎ (answer ≡ 10) ⊎ (answer ≡ 11)
   -- 3 only where a document is refused, and this refusal is printed
   pub refused : answer ≡ 3 → (refusal : Refusal) × Comes files files_now command (Refused refusal) × Gains sink.held sink_now.held (λ added. added ≡ refusal_line refusal)
+  -- 6 only where a request was next and as many were sent as may be: this many
+  pub budget : answer ≡ 6 → (s : Session) × (limit : ℕ) × Comes files files_now command (Played s) × (s.end ≡ Budget limit)
   -- 7 only where the execution couldn't go on
   pub stuck : answer ≡ 7 → (s : Session) × (cause : Cause) × (at : Spot) × Comes files files_now command (Played s) × (s.end ≡ Stuck cause at)
   -- 10 only where the sink failed

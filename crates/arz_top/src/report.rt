@@ -44,6 +44,7 @@ fn end_status(end: &End) -> u8
         End::Broke(_) => 1,
         End::Out(_) => 14,
         End::Stuck(_, _) => 7,
+        End::Budget(_) => 6,
     }
 }
 
@@ -146,7 +147,7 @@ fn push_outputs(alloc: Global, out: &mut Vec<u8>, end: End) -> Result<(), AllocE
 {
     match end {
         End::Completed(outputs) | End::Broke(outputs) => push_object(alloc, out, outputs),
-        End::Out(_) | End::Stuck(_, _) => Ok(()),
+        End::Out(_) | End::Stuck(_, _) | End::Budget(_) => Ok(()),
     }
 }
 

@@ -1,5 +1,4 @@
-use Rattle.std.proofs.Common.{◌≡◌, Result, Ok, Err, IfOk, MatchResult, refl}
-use Rattle.arz_bundle.proofs.Stages.{Later}
+use Rattle.std.proofs.Common.{Result, Ok, Err, IfOk, MatchResult, refl}
 use Rattle.arz_top.proofs.Loaded.{mocks, faulted}
 use Rattle.arz_top.proofs.run.mock_files.Goals as goal
 

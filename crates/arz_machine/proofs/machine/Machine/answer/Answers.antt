@@ -1,4 +1,4 @@
-use Rattle.std.proofs.Common.{◌≡◌, ◌↔◌, List, ◌∷◌, [], ◌++◌, ap, sym, ◌∙◌, refl, subst, Err, Ok, true, false}
+use Rattle.std.proofs.Common.{◌≡◌, ◌↔◌, List, ◌∷◌, [], ◌++◌, ap, sym, ◌∙◌, refl, subst, Err, false}
 use Rattle.std.specs.Result.{OnOk}
 use Rattle.arz_flow.specs.declared.answers.Answer.{Answer}
 use Rattle.arz_flow.specs.declared.bundle.Bundle.{Bundle}

@@ -1,4 +1,4 @@
-use Rattle.std.proofs.Common.{ap, ◌∙◌}
+use Rattle.std.proofs.Common.{ap}
 use Rattle.arz_machine.specs.At.{standing}
 use Rattle.arz_machine.specs.Resting.{rest_of}
 use Rattle.arz_machine.proofs.MachineAt.{lacks_reply, is_over}

@@ -1,4 +1,3 @@
-use Rattle.std.proofs.Common.{refl}
 use Rattle.arz_machine.proofs.MachineAt.{starts_run}
 use Rattle.arz_machine.proofs.machine.Machine.start.Goals as goal
 
