@@ -1,5 +1,5 @@
 -- Whether a text spells an expression, told by a reading of it.
-use Rattle.std.proofs.Common.{◌≡◌, ℕ, false, List, Option, None, Some, IfSome, refl, ap, sym, subst, ◌∙◌}
+use Rattle.std.proofs.Common.{◌≡◌, ℕ, false, List, Option, None, Some, IfSome, refl, ap, sym, subst}
 use Rattle.std.specs.Option.{is_some}
 use Rattle.arz_expr.specs.declared.syntax.Expr.{Expr}
 use Rattle.arz_expr.specs.Grammar.{Reads}

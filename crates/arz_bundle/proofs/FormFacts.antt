@@ -15,7 +15,7 @@ use Rattle.arz_flow.specs.Documents.{text_at, items_at, workflow_named, steps_in
 use Rattle.arz_flow.specs.Valid.{steps_limit}
 use Rattle.arz_bundle.specs.Forms.{description_members, is_description, workflow_members, is_workflow, are_steps, is_step, reply_members, has_one_body, is_reply, are_replies}
 use Rattle.arz_bundle.specs.FormNames.{have_distinct_names}
-use Rattle.arz_bundle.specs.FormWords.{Row, passes, sole, is_in, has_needed, is_object_of, is_object_with, is_list_of_one, is_final, is_status, has_no_opaque}
+use Rattle.arz_bundle.specs.FormWords.{Row, passes, sole, is_in, has_needed, is_object_of, is_object_with, is_list_of_one, is_final}
 
 pub left : (a b : Bool) → (a && b) ≡ true → a ≡ true
 left true b p = refl

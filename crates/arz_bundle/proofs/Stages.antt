@@ -1,5 +1,5 @@
 -- What comes of a later file comes of the files before it.
-use Rattle.std.proofs.Common.{◌≡◌, ◌⊎◌, inl, inr, ◌+◌, ◌-◌, ◌^◌, ◌≤◌, ℕ, List, ◌++◌, codes, Bool, true, false, Result, Ok, Err, min, refl, sym, ◌∙◌, ap, subst, arith}
+use Rattle.std.proofs.Common.{◌≡◌, inl, inr, ◌≤◌, ℕ, List, ◌++◌, codes, Bool, true, false, Result, Ok, Err, refl, ◌∙◌, ap, subst, arith}
 use Rattle.arz_json.specs.declared.Json.{Json}
 use Rattle.arz_json.proofs.Readings.{Reads-unique}
 use Rattle.arz_world.specs.Outside.{FilesView, ReadsAs, Rose, Told}
@@ -8,7 +8,7 @@ use Rattle.arz_flow.specs.declared.bundle.Bundle.{Bundle}
 use Rattle.arz_bundle.specs.declared.fault.LoadFault.{LoadFault}
 use Rattle.arz_bundle.specs.declared.fault.LoadFault.TheVariants.{File, Refused, Memory}
 use Rattle.arz_bundle.specs.Forms.{is_setup, is_description, is_source, are_replies}
-use Rattle.arz_bundle.specs.Loading.{file_limit, IsFile, not_built, description_path, source_name, source_path, bundle_of, Formed, Reading, FromSource, FromDescription, Loads, Gives_replies}
+use Rattle.arz_bundle.specs.Loading.{file_limit, not_built, description_path, source_name, source_path, bundle_of, Formed, Reading, FromSource, FromDescription, Loads, Gives_replies}
 use Rattle.arz_bundle.specs.FileTree.{HasTree}
 use Rattle.arz_bundle.specs.Replies.{replies_of}
 

@@ -1,19 +1,18 @@
 -- What the form of the files gives: a valid bundle, and replies with their statuses.
-use Rattle.std.proofs.Common.{◌≡◌, ℕ, ◌≤◌, ◌<◌, true, List, [], ◌∷◌, length, map, Option, None, Some, All, codes, refl, sym, ap, ◌∙◌, arith, lt-ltb}
-use Rattle.std.specs.Prelude.{pos, nat_lt, unwrap_or, option_and_then}
+use Rattle.std.proofs.Common.{◌≡◌, ℕ, true, List, [], ◌∷◌, length, map, Option, None, Some, All, codes, refl, sym, ap, arith, lt-ltb}
+use Rattle.std.specs.Prelude.{nat_lt, unwrap_or}
 use Rattle.std.specs.Option.{ForSome}
 use Rattle.std.specs.List.{list_all, AllByRecursion}
 use Rattle.std.proofs.lemmas.List.Elements.{All-from_recursion}
 use Rattle.std.proofs.lemmas.Option.{slice_get-get_or}
 use Rattle.arz_json.specs.Look.{list_in, object_in, member_in}
-use Rattle.arz_json.specs.Tree.{IsWithin, IsWellFormed, max_depth, form_step, depth_step}
+use Rattle.arz_json.specs.Tree.{IsWithin, max_depth, form_step, depth_step}
 use Rattle.arz_json.specs.declared.Json.{Json}
 use Rattle.arz_json.specs.declared.Json.TheVariants as json
 use Rattle.arz_json.specs.declared.Member.{Member}
 use Rattle.arz_json.specs.declared.Named.{Named}
 use Rattle.arz_json.proofs.Layers.{folded-Object}
 use Rattle.arz_json.proofs.Parts.{IsWithin-more, IsWithin-list_in, IsWithin-object_in, IsWithin-member_in, IsWellFormed-item}
-use Rattle.arz_world.specs.declared.Reply.{Reply}
 use Rattle.arz_flow.specs.Documents.{items_at, members_at, steps_of}
 use Rattle.arz_flow.specs.Valid.{IsValid}
 use Rattle.arz_bundle.specs.Forms.{is_description, is_reply, are_replies}

@@ -1,5 +1,5 @@
 -- Words for the tables of objects that the form of the files is made of.
-use Rattle.std.specs.Prelude.{ℕ, ℤ, pos, negsuc, ◌==◌, ◌&&◌, ◌||◌, List, [], ◌∷◌, Bool, true, false, Option, Some, None, codes, length, drop, nat_eq, nat_lt, nat_le, not, find}
+use Rattle.std.specs.Prelude.{ℕ, ℤ, pos, negsuc, ◌==◌, ◌&&◌, ◌||◌, List, [], ◌∷◌, Bool, true, false, Option, Some, None, codes, length, drop, nat_eq, nat_lt, nat_le, not, find, if◌then◌else◌, option_and_then}
 use Rattle.std.specs.Option.{option_map_or, is_some}
 use Rattle.std.specs.Char.{is_ascii_alphanumeric, is_ascii_digit}
 use Rattle.std.specs.List.{list_all, list_any, starts_with}
@@ -84,6 +84,17 @@ is_final (negsuc n) = false
 
 abbrev pub is_status : Json → Bool
 is_status j = passes is_final (int_in j)
+
+-- how many requests may be sent, where an integer says so: 0 to 10,000
+abbrev pub attempts_in : ℤ → Option ℕ
+attempts_in (pos n) = if nat_le n 10000 then Some n else None
+attempts_in (negsuc n) = None
+
+abbrev pub attempts_of : Json → Option ℕ
+attempts_of j = option_and_then attempts_in (int_in j)
+
+abbrev pub are_attempts : Json → Bool
+are_attempts j = is_some (attempts_of j)
 
 -- a text of a reply, of any length
 abbrev pub is_body_text : Json → Bool

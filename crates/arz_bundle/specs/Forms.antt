@@ -13,7 +13,7 @@ use Rattle.arz_flow.specs.Valid.{steps_limit}
 use Rattle.arz_bundle.specs.FormNames.{are_named, have_distinct_names}
 use Rattle.arz_bundle.specs.FormTexts.{is_short}
 use Rattle.arz_bundle.specs.FormValues.{is_value, is_output}
-use Rattle.arz_bundle.specs.FormWords.{passes, Row, needed, optional, is_object_of, is_object_with, is_list_of, is_list_of_one, is_text, is_any_text, is_filled_text, is_name, is_info, has_no_opaque, are_inputs, is_status, is_body_text, is_header, is_path_byte, is_server_url, is_openapi_version, is_operation_id}
+use Rattle.arz_bundle.specs.FormWords.{passes, Row, needed, optional, is_object_of, is_object_with, is_list_of, is_list_of_one, is_text, is_any_text, is_filled_text, is_name, is_info, has_no_opaque, are_inputs, are_attempts, is_status, is_body_text, is_header, is_path_byte, is_server_url, is_openapi_version, is_operation_id}
 
 -- ---- setup
 
@@ -21,6 +21,7 @@ abbrev pub setup_members : List Row
 setup_members =
     needed (codes "arazzo") is_filled_text
     ∷ optional (codes "inputs") are_inputs
+    ∷ optional (codes "maxAttempts") are_attempts
     ∷ []
 
 abbrev pub is_setup : Json → Bool

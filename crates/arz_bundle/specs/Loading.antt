@@ -1,7 +1,8 @@
 -- How the files of a run are read, and what comes of them.
-use Rattle.std.specs.Prelude.{◌≡◌, ◌⊎◌, ◌≤◌, ◌++◌, ℕ, List, [], ◌∷◌, length, codes, Bool, true, false}
+use Rattle.std.specs.Prelude.{◌≡◌, ◌⊎◌, ◌≤◌, ◌++◌, ℕ, List, [], ◌∷◌, length, codes, Bool, true, false, option_and_then, unwrap_or}
 use Rattle.std.specs.declared.result.Result.{Result}
 use Rattle.std.specs.declared.result.Result.TheVariants.{Ok, Err}
+use Rattle.arz_json.specs.Look.{member_in}
 use Rattle.arz_json.specs.Reading.{Reads}
 use Rattle.arz_json.specs.declared.Json.{Json}
 use Rattle.arz_json.specs.declared.Refusal.{Refusal}
@@ -11,6 +12,7 @@ use Rattle.arz_flow.specs.declared.bundle.Bundle.{Bundle}
 use Rattle.arz_flow.specs.Documents.{text_at, items_at, members_at}
 use Rattle.arz_bundle.specs.declared.fault.LoadFault.{LoadFault}
 use Rattle.arz_bundle.specs.declared.fault.LoadFault.TheVariants.{File, Refused, Memory}
+use Rattle.arz_bundle.specs.FormWords.{attempts_of}
 use Rattle.arz_bundle.specs.Forms.{is_setup, is_description, is_source, are_replies}
 use Rattle.arz_bundle.specs.Replies.{replies_of}
 
@@ -32,7 +34,11 @@ source_name description = first_text (codes "name") (items_at (codes "sourceDesc
 abbrev pub source_path : Json → List ℕ
 source_path description = first_text (codes "url") (items_at (codes "sourceDescriptions") description)
 
--- what is executed: the first workflow, with the inputs of the setup
+-- how many requests may be sent: what the setup says, or 1,000
+abbrev pub max_attempts : Json → ℕ
+max_attempts setup = unwrap_or (option_and_then attempts_of (member_in (codes "maxAttempts") setup)) 1000
+
+-- what is executed: the first workflow, with the inputs and the budget of the setup
 abbrev pub bundle_of : (setup description source : Json) → Bundle
 bundle_of setup description source = record {
   arazzo = description;
@@ -40,7 +46,7 @@ bundle_of setup description source = record {
   servers = [];
   workflow = first_text (codes "workflowId") (items_at (codes "workflows") description);
   inputs = members_at (codes "inputs") setup;
-  max_attempts = 1000;
+  max_attempts = max_attempts setup;
   skip_delay = false;
   journal_limit = 1073741824;
 }

@@ -26,7 +26,7 @@ pub(crate) fn read_tree<F: Files>(
 {
     let bytes = match files.read(path, FILE_LIMIT) {
         Ok(bytes) => bytes,
-        Err(FileFault::Failed) => return Err(LoadFault::File(text(alloc, path)?)),
+        Err(FileFault::Failed) => return Err(LoadFault::File(Text::from_str(alloc, path)?)),
         Err(FileFault::Memory) => return Err(LoadFault::Memory),
     };
     match read(alloc, bytes.as_slice(), FILE_LIMIT) {
@@ -42,14 +42,7 @@ pub(crate) fn refuse(alloc: Global, label: &str) -> Result<LoadFault, AllocError
 {
     Ok(LoadFault::Refused(Refusal {
         rule: 0,
-        label: text(alloc, label)?,
+        label: Text::from_str(alloc, label)?,
         pointer: Text::from_std(String::new(alloc)),
     }))
-}
-
-/// A text of its own.
-pub(crate) fn text(alloc: Global, bytes: &str) -> Result<Text, AllocError>
-    ensures { IfOk result (λ text. text ≡ bytes.now) }
-{
-    Ok(Text::from_std(String::from_str(alloc, bytes)?))
 }

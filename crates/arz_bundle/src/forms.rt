@@ -14,5 +14,5 @@ mod words;
 
 pub(crate) use description::is_description;
 pub(crate) use replies::are_replies;
-pub(crate) use setup::is_setup;
+pub(crate) use setup::{attempts, is_setup};
 pub(crate) use source::is_source;

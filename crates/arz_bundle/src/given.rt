@@ -10,7 +10,7 @@ ghost use Rattle.arz_bundle.specs.Printable.{IsItem, IsPrintable};
 ghost use Rattle.arz_bundle.specs.Replies.{status_of, header_of, is_content_type as tells_type, headers_for, body_for, reply_of, HasStatus};
 
 use crate::fault::LoadFault;
-use crate::files::{read_tree, refuse, text};
+use crate::files::{read_tree, refuse};
 use crate::forms::are_replies;
 use arz_flow::{members_at, text_at};
 use arz_json::{Bytes, CompactFault, Json, Many, Member, Text, compact};
@@ -109,7 +109,7 @@ fn add_type(
 {
     if body.is_some() && !tell_type(headers.as_slice()) {
         headers.push(Header {
-            name: text(alloc, "content-type")?,
+            name: Text::from_str(alloc, "content-type")?,
             value: Bytes::from_std(b"application/json".to_vec(alloc)?),
         })?;
     }

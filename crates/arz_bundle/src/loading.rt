@@ -1,18 +1,16 @@
 // The bundle that the files of a run give.
 ghost use Rattle.std.specs.Prelude.{◌≡◌, ◌≤◌, ◌++◌, ℕ, List, IfOk, true, codes, string_bytes};
 ghost use Rattle.arz_json.specs.Tree.{IsWithin};
-ghost use Rattle.arz_json.specs.Look.{member_in};
-ghost use Rattle.arz_json.specs.Pointer.{member_named};
 ghost use Rattle.arz_flow.specs.Documents.{members_at as members_under};
 ghost use Rattle.arz_flow.specs.Valid.{IsValid};
 ghost use Rattle.arz_bundle.specs.Forms.{is_setup as setup_form, is_description as description_form};
-ghost use Rattle.arz_bundle.specs.Loading.{first_text as text_in_first, source_name as name_of_source, source_path as path_of_source, bundle_of, FromSource, FromDescription, Loads};
+ghost use Rattle.arz_bundle.specs.Loading.{first_text as text_in_first, source_name as name_of_source, source_path as path_of_source, max_attempts as most_attempts, bundle_of, FromSource, FromDescription, Loads};
 
 use crate::fault::LoadFault;
-use crate::files::{read_tree, refuse, text};
-use crate::forms::{is_description, is_setup, is_source};
+use crate::files::{read_tree, refuse};
+use crate::forms::{attempts, is_description, is_setup, is_source};
 use arz_flow::{Bundle, items_at, text_at};
-use arz_json::{Json, Many, Member, Members, Named};
+use arz_json::{Json, Many, Members, Named, Text};
 use arz_world::Files;
 use std::alloc::{AllocError, Global};
 
@@ -121,11 +119,12 @@ fn make_bundle(
 ) -> Result<Bundle, AllocError>
     ensures { IfOk result (λ bundle. bundle ≡ bundle_of setup description source) }
 {
-    let name = text(alloc, source_name(&description))?;
-    let workflow = text(
+    let name = Text::from_str(alloc, source_name(&description))?;
+    let workflow = Text::from_str(
         alloc,
         first_text(items_at(&description, "workflows"), "workflowId"),
     )?;
+    let max_attempts = max_attempts(&setup);
     let mut sources = Vec::new(alloc);
     sources.push(Named { name, root: source })?;
     Ok(Bundle {
@@ -134,38 +133,25 @@ fn make_bundle(
         servers: Many::new(alloc),
         workflow,
         inputs: into_inputs(alloc, setup),
-        max_attempts: 1000,
+        max_attempts,
         skip_delay: false,
         journal_limit: 1_073_741_824,
     })
+}
+
+// How many requests may be sent: what the setup says, or 1,000.
+fn max_attempts(setup: &Json) -> u32
+    ensures { result ≡ most_attempts setup.now }
+{
+    setup.get("maxAttempts").and_then(attempts).unwrap_or(1000)
 }
 
 // The inputs that the setup gives.
 fn into_inputs(alloc: Global, setup: Json) -> Members
     ensures { result ≡ members_under (codes "inputs") setup }
 {
-    match into_value(setup, "inputs") {
+    match setup.into_member("inputs") {
         Some(Json::Object(members)) => members,
         _ => Many::new(alloc),
     }
-}
-
-fn into_value(tree: Json, name: &str) -> Option<Json>
-    ensures { result ≡ member_in name.now tree }
-{
-    match tree {
-        Json::Object(members) => value_named(members.into_std(), name),
-        _ => None,
-    }
-}
-
-fn value_named(members: Vec<Member>, name: &str) -> Option<Json>
-    ensures { result ≡ member_named members.items name.now }
-{
-    for member in members {
-        if member.name.as_str() == name {
-            return Some(member.value);
-        }
-    }
-    None
 }

@@ -1,4 +1,4 @@
-use Rattle.std.proofs.Common.{◌≡◌, Option, None, Some, ap, sym, ◌∙◌}
+use Rattle.std.proofs.Common.{Option, None, Some, ap, sym, ◌∙◌}
 use Rattle.arz_flow.specs.Documents.{url_of}
 use Rattle.arz_bundle.specs.Standing.{Place}
 use Rattle.arz_bundle.proofs.Noting.{answered}
