@@ -27,7 +27,7 @@ unspent (suc n) lt = eqb-zero-suc n
 -- no answer: its request is asked for
 pub one_out : (b : Bundle) (step : Json) (q : Request) → steps_of b b.workflow ≡ step ∷ [] → request_of b (found (surroundings b (begun b.workflow b.inputs) []) Nothing) step ≡ Ok q → 0 < b.max_attempts → end b [] ≡ Some (Out (Send q))
 unfolding script
-one_out b step q e f lt = let more = unspent b.max_attempts lt in rw (e, f, more) refl
+one_out b step q e f lt = let more = unspent b.max_attempts lt in rw (e, f, more) (refl {a = Some (Out (Send q))})
 
 -- no request may be sent
 pub one_budget : (b : Bundle) (step : Json) (q : Request) → steps_of b b.workflow ≡ step ∷ [] → request_of b (found (surroundings b (begun b.workflow b.inputs) []) Nothing) step ≡ Ok q → b.max_attempts ≡ 0 → end b [] ≡ Some (Budget 0)

@@ -6,6 +6,7 @@ use Rattle.std.specs.Fmt.{decimal}
 use Rattle.std.specs.Str.{bytes_eq, str_to_ascii_uppercase}
 use Rattle.std.specs.declared.option.Option.{Option}
 use Rattle.std.specs.declared.result.Result.TheVariants.{Ok, Err}
+use Rattle.arz_json.specs.Answer.{◌>>=◌}
 use Rattle.arz_json.specs.declared.Json.{Json}
 use Rattle.arz_json.specs.declared.Location.TheVariants.{Path}
 use Rattle.arz_world.specs.declared.Server.{Server}
@@ -18,7 +19,7 @@ use Rattle.arz_flow.specs.declared.bundle.Bundle.{Bundle}
 use Rattle.arz_flow.specs.Bytes.{request_bytes, request_limit}
 use Rattle.arz_flow.specs.Documents.{Operation, operation_of}
 use Rattle.arz_flow.specs.Fillings.{filling}
-use Rattle.arz_flow.specs.Outcomes.{Made, and_then, made_of}
+use Rattle.arz_flow.specs.Outcomes.{Made, made_of}
 use Rattle.arz_flow.specs.Parameters.{Parameter, parameters_of}
 use Rattle.arz_flow.specs.Paths.{Part, Name, Byte, parts}
 use Rattle.arz_flow.specs.Styles.{simple}
@@ -38,12 +39,12 @@ written_as name value = made_of (λ text. record { sent = sent_as name value; te
 module _ (found : Base → Option Json) where
   -- a parameter, filled and then written
   abbrev pub given : Parameter → Made Given
-  given parameter = and_then (filling found parameter.value) (written_as parameter.name)
+  given parameter = filling found parameter.value >>= written_as parameter.name
 
   -- in order, up to the first that can't be
   abbrev pub all_given : List Parameter → Made (List Given)
   all_given [] = Ok []
-  all_given (p ∷ ps) = and_then (given p) (λ g. made_of (λ gs. g ∷ gs) (all_given ps))
+  all_given (p ∷ ps) = given p >>= λ g. made_of (λ gs. g ∷ gs) (all_given ps)
 
 -- the text of the first parameter with this name
 abbrev pub text_named : List Given → List ℕ → List ℕ
@@ -99,7 +100,7 @@ within_limit q = if nat_le (length (request_bytes q)) request_limit then Ok q el
 
 -- the request of an operation with these parameters, or the first cause why there is none
 abbrev pub request_by : (Base → Option Json) → Operation → List Parameter → Made Request
-request_by found operation parameters = and_then (all_given found parameters) (λ gs. within_limit (request_to operation gs))
+request_by found operation parameters = all_given found parameters >>= λ gs. within_limit (request_to operation gs)
 
 -- the request of a step
 abbrev pub request_of : Bundle → (Base → Option Json) → Json → Made Request

@@ -5,11 +5,12 @@ use Rattle.std.specs.Char.{is_ascii_alphanumeric}
 use Rattle.std.specs.Fmt.{signed_decimal}
 use Rattle.std.specs.declared.result.Result.TheVariants.{Ok, Err}
 use Rattle.percent_encoding.specs.Percent.{percent_encode_byte}
+use Rattle.arz_json.specs.Answer.{◌>>=◌}
 use Rattle.arz_json.specs.declared.Json.{Json, out-Json}
 use Rattle.arz_json.specs.declared.Json.TheOpen.{Json-F}
 use Rattle.arz_json.specs.declared.Member.{Member}
 use Rattle.arz_flow.specs.declared.answers.Cause.TheVariants.{NotSerializable, FractionUsed}
-use Rattle.arz_flow.specs.Outcomes.{Made, made_of, and_then}
+use Rattle.arz_flow.specs.Outcomes.{Made, made_of}
 use Rattle.arz_flow.specs.Texts.{joined}
 
 -- A-Z a-z 0-9 - . _ ~ (RFC 3986, 2.3)
@@ -48,7 +49,7 @@ with_part (Some text) texts = text ∷ texts
 -- the texts of the items of a list
 abbrev pub item_texts : List Json → Made (List (List ℕ))
 item_texts [] = Ok []
-item_texts (j ∷ js) = and_then (part j) (λ text. made_of (with_part text) (item_texts js))
+item_texts (j ∷ js) = part j >>= λ text. made_of (with_part text) (item_texts js)
 
 -- NAME,VALUE
 abbrev pub member_text : List ℕ → Option (List ℕ) → Option (List ℕ)
@@ -57,7 +58,7 @@ member_text name (Some text) = Some (escaped name ++ codes "," ++ text)
 
 abbrev pub member_texts : List Member → Made (List (List ℕ))
 member_texts [] = Ok []
-member_texts (m ∷ ms) = and_then (part m.value) (λ text. made_of (with_part (member_text m.name text)) (member_texts ms))
+member_texts (m ∷ ms) = part m.value >>= λ text. made_of (with_part (member_text m.name text)) (member_texts ms)
 
 abbrev pub simple_step : Json-F Json Member → Made (List ℕ)
 simple_step Json-F.Null = Ok []

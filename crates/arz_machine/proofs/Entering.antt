@@ -21,7 +21,8 @@ use Rattle.arz_flow.specs.Parameters.{parameters_of}
 use Rattle.arz_flow.specs.Requests.{request_by}
 use Rattle.arz_flow.specs.Scopes.{Nothing, Exchange, found}
 use Rattle.arz_flow.proofs.Within.{step-within}
-use Rattle.arz_request.specs.Builds.{Builds}
+use Rattle.arz_json.specs.Answer.{Fails}
+use Rattle.arz_request.specs.Builds.{told}
 use Rattle.arz_request.specs.Operations.{operation_in}
 use Rattle.arz_request.specs.declared.faults.BuildFault.{BuildFault}
 use Rattle.arz_request.specs.declared.faults.BuildFault.TheVariants.{Stuck as StuckFault}
@@ -64,9 +65,9 @@ module _ (b : Bundle) (facts : List Fact) (read step : Json) (same : read ≡ st
   stuck_at at_read cause e = ap (λ z. Ended (Stuck cause z)) (e ∙ ap (spot (run_of b facts)) same)
 
   -- the cause why there is no request
-  pub stuck_by : (s : Speaking) (o : Operation) (fault : BuildFault) (cause : Cause) → Builds (Err fault) (request_by (found (spoken_run s) (attempt_of s.exchange)) o (parameters_of b.arazzo read))
+  pub stuck_by : (s : Speaking) (o : Operation) (fault : BuildFault) (cause : Cause) → Fails (told fault) (request_by (found (spoken_run s) (attempt_of s.exchange)) o (parameters_of b.arazzo read))
       → fault ≡ StuckFault cause → request_by (found (spoken_run s) (attempt_of s.exchange)) o (parameters_of b.arazzo read) ≡ Err cause
-  stuck_by s o fault cause builds is = subst (λ f. Builds (Err f) (request_by (found (spoken_run s) (attempt_of s.exchange)) o (parameters_of b.arazzo read))) is builds
+  stuck_by s o fault cause builds is = subst (λ f. Fails (told f) (request_by (found (spoken_run s) (attempt_of s.exchange)) o (parameters_of b.arazzo read))) is builds
 
   -- the fact of the step that was read
   pub fact_as : (s : Speaking) (q : Request) (y : Reply) (id : List ℕ) (outputs : List Member) → s ≡ spoken b facts (Some (q, y)) → id ≡ text_at (codes "stepId") read

@@ -36,7 +36,7 @@ has_step (Ended e) step count = true
 abbrev pub run_of : Bundle → List Fact → Run
 run_of b facts = record { workflow = b.workflow; inputs = b.inputs; facts = facts }
 
--- each attempt sent a request and left its fact: whether as many were sent as may be
+-- whether as many requests were sent as may be; each attempt sent one and left its fact
 abbrev pub is_spent : Bundle → List Fact → Bool
 is_spent b facts = length facts == b.max_attempts
 

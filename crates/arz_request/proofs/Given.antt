@@ -5,8 +5,9 @@ use Rattle.arz_expr.specs.declared.syntax.Base.{Base}
 use Rattle.arz_flow.specs.declared.answers.Cause.{Cause}
 use Rattle.arz_request.specs.declared.faults.BuildFault.{BuildFault}
 use Rattle.arz_request.specs.declared.faults.BuildFault.TheVariants.{Stuck, Memory}
-use Rattle.arz_request.specs.Builds.{Builds, BuildsAll}
-use Rattle.arz_flow.specs.Outcomes.{Made, made_of, and_then}
+use Rattle.arz_json.specs.Answer.{◌>>=◌, Fails}
+use Rattle.arz_request.specs.Builds.{told}
+use Rattle.arz_flow.specs.Outcomes.{Made, made_of}
 use Rattle.arz_flow.specs.Parameters.{parameter_of}
 use Rattle.arz_flow.specs.Requests.{Given, given, all_given}
 
@@ -15,7 +16,7 @@ abbrev pub behind : List Given → Made (List Given) → Made (List Given)
 behind gs made = made_of (λ others. gs ++ others) made
 
 abbrev with_first : Made Given → Made (List Given) → Made (List Given)
-with_first g gs = and_then g (λ x. made_of (λ xs. x ∷ xs) gs)
+with_first g gs = g >>= λ x. made_of (λ xs. x ∷ xs) gs
 
 -- those that items of a description stand for
 abbrev pub given_by : (Base → Option Json) → (description : Json) → List Json → Made (List Given)
@@ -44,10 +45,10 @@ module _ (found : Base → Option Json) (d : Json) where
   stopped ps i p gs c lt is before made =
       before ∙ ap (behind gs) (from ps i p lt is ∙ ap (λ m. with_first m (given_by found d (drop (i + 1) ps))) made)
 
-  pub fails : (A : Type 0) (ps : List Json) (i : ℕ) (p : Json) (gs : List Given) (f : BuildFault) → i < length ps → p ≡ get_or ps i p
-      → given_by found d ps ≡ behind gs (given_by found d (drop i ps)) → Builds (Err f) (given_as found d p) → BuildsAll {A = A} (Err f) (given_by found d ps)
-  fails A ps i p gs (Stuck c) lt is before made = stopped ps i p gs c lt is before made
-  fails A ps i p gs Memory lt is before made = tt
+  pub fails : (ps : List Json) (i : ℕ) (p : Json) (gs : List Given) (f : BuildFault) → i < length ps → p ≡ get_or ps i p
+      → given_by found d ps ≡ behind gs (given_by found d (drop i ps)) → Fails (told f) (given_as found d p) → Fails (told f) (given_by found d ps)
+  fails ps i p gs (Stuck c) lt is before made = stopped ps i p gs c lt is before made
+  fails ps i p gs Memory lt is before made = tt
 
 -- none is left
 pub ended : (gs : List Given) → behind gs (Ok []) ≡ Ok gs

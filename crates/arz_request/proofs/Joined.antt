@@ -5,12 +5,13 @@ use Rattle.std.proofs.lemmas.List.Concat.{flat_map-cons}
 use Rattle.arz_flow.specs.declared.answers.Cause.{Cause}
 use Rattle.arz_json.specs.declared.Json.{Json}
 use Rattle.arz_json.specs.declared.Member.{Member}
-use Rattle.arz_flow.specs.Outcomes.{Made, made_of, and_then}
+use Rattle.arz_json.specs.Answer.{◌>>=◌, Fails}
+use Rattle.arz_flow.specs.Outcomes.{Made, made_of}
 use Rattle.arz_flow.specs.Styles.{part, with_part, item_texts, member_text, member_texts}
 use Rattle.arz_flow.specs.Texts.{joined}
 use Rattle.arz_request.specs.declared.style.StyleFault.{StyleFault}
 use Rattle.arz_request.specs.declared.style.StyleFault.TheVariants.{NotSerializable, FractionUsed, Memory}
-use Rattle.arz_request.specs.Simple.{Fails, joined_texts, separator}
+use Rattle.arz_request.specs.Simple.{told, joined_texts, separator}
 
 -- texts behind some, or the first of all
 abbrev pub more : Bool → List (List ℕ) → List ℕ
@@ -32,7 +33,7 @@ followed out started texts = made_of (λ ts. out ++ more started ts) texts
 -- ---- one more part
 
 abbrev pub with_first : Made (Option (List ℕ)) → Made (List (List ℕ)) → Made (List (List ℕ))
-with_first p texts = and_then p (λ text. made_of (with_part text) texts)
+with_first p texts = p >>= λ text. made_of (with_part text) texts
 
 written-first : (out t : List ℕ) (started : Bool) (texts : Made (List (List ℕ))) → made_of (λ ts. out ++ more started ts) (made_of (with_part (Some t)) texts) ≡ followed (out ++ separator started ++ t) true texts
 written-first out t started (Ok ts) =
@@ -64,7 +65,7 @@ stopped out started all texts old p c whole is =
     same-cause (λ ts. old ++ more false ts) (joined (codes ",")) all c (whole ∙ ap (λ q. followed out started (with_first q texts)) is)
 
 pub fails : (out : List ℕ) (started : Bool) (all texts : Made (List (List ℕ))) (old : List ℕ) (p : Made (Option (List ℕ))) (f : StyleFault)
-    → followed old false all ≡ followed out started (with_first p texts) → Fails f p → Fails f (joined_texts all)
+    → followed old false all ≡ followed out started (with_first p texts) → Fails (told f) p → Fails (told f) (joined_texts all)
 fails out started all texts old p NotSerializable whole is = stopped out started all texts old p _ whole is
 fails out started all texts old p FractionUsed whole is = stopped out started all texts old p _ whole is
 fails out started all texts old p Memory whole is = tt
@@ -88,14 +89,14 @@ items-from js i j lt is = rw (add-one, drop-cons js i j lt, ← is) refl
 abbrev pub member_part : Member → Made (Option (List ℕ))
 member_part m = made_of (member_text m.name) (part m.value)
 
-member-first : (name : List ℕ) (p : Made (Option (List ℕ))) (texts : Made (List (List ℕ))) → and_then p (λ text. made_of (with_part (member_text name text)) texts) ≡ with_first (made_of (member_text name) p) texts
+member-first : (name : List ℕ) (p : Made (Option (List ℕ))) (texts : Made (List (List ℕ))) → (p >>= λ text. made_of (with_part (member_text name text)) texts) ≡ with_first (made_of (member_text name) p) texts
 member-first name (Ok t) texts = refl
 member-first name (Err c) texts = refl
 
 pub members-from : (ms : List Member) (i : ℕ) (m : Member) → i < length ms → m ≡ get_or ms i m → member_texts (drop i ms) ≡ with_first (member_part m) (member_texts (drop (i + 1) ms))
 members-from ms i m lt is = rw (add-one, drop-cons ms i m lt, ← is) (member-first m.name (part m.value) (member_texts (drop (suc i) ms)))
 
-pub member-fails : (m : Member) (f : StyleFault) → Fails f (part m.value) → Fails f (member_part m)
+pub member-fails : (m : Member) (f : StyleFault) → Fails (told f) (part m.value) → Fails (told f) (member_part m)
 member-fails m NotSerializable is = ap (made_of (member_text m.name)) is
 member-fails m FractionUsed is = ap (made_of (member_text m.name)) is
 member-fails m Memory is = tt

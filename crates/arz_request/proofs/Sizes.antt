@@ -10,7 +10,8 @@ use Rattle.arz_flow.specs.Documents.{Operation}
 use Rattle.arz_flow.specs.Requests.{Given, expanded, request_to, within_limit}
 use Rattle.arz_request.specs.declared.faults.BuildFault.{BuildFault}
 use Rattle.arz_request.specs.declared.faults.BuildFault.TheVariants.{Stuck, Memory}
-use Rattle.arz_request.specs.Builds.{Builds, FitsIn}
+use Rattle.arz_json.specs.Answer.{Fails}
+use Rattle.arz_request.specs.Builds.{told, FitsIn}
 
 -- the bytes of a request are no fewer than those of its target
 target-within : (q : Request) → length q.target ≤ length (request_bytes q)
@@ -33,7 +34,7 @@ past-limit n past = grind (arith, nat_tests)
 refused : (q : Request) → request_limit < length (request_bytes q) → within_limit q ≡ Err RequestTooLarge
 refused q past = cond-false _ _ _ (past-limit (length (request_bytes q)) past)
 
-pub too-large : (o : Operation) (gs : List Given) (f : BuildFault) → FitsIn (Err f) (expanded gs o.path) → Builds (Err f) (within_limit (request_to o gs))
+pub too-large : (o : Operation) (gs : List Given) (f : BuildFault) → FitsIn (Err f) (expanded gs o.path) → Fails (told f) (within_limit (request_to o gs))
 too-large o gs (Stuck why) fit =
     let q = request_to o gs in
     refused q (omega (arith, fit.1, target-within q, length-append q.server.base (expanded gs o.path))) ∙ ap Err (sym fit.0)

@@ -1,31 +1,23 @@
 -- What building a request answers.
-use Rattle.std.specs.Prelude.{◌≡◌, ◌<◌, ℕ, List, ◌++◌, length}
-use Rattle.std.specs.declared.vec.Vec.{Vec}
+use Rattle.std.specs.Prelude.{◌≡◌, ◌<◌, ℕ, List, ◌++◌, length, Option, Some, None}
 use Rattle.std.specs.declared.result.Result.{Result}
 use Rattle.std.specs.declared.result.Result.TheVariants.{Ok, Err}
 use Rattle.arz_expr.specs.declared.filling.FillFault.{FillFault}
 use Rattle.arz_expr.specs.declared.filling.FillFault.TheVariants as fill
+use Rattle.arz_flow.specs.declared.answers.Cause.{Cause}
 use Rattle.arz_flow.specs.declared.answers.Cause.TheVariants as cause
 use Rattle.arz_flow.specs.Bytes.{request_limit}
-use Rattle.arz_flow.specs.Outcomes.{Made}
 use Rattle.arz_request.specs.declared.style.StyleFault.{StyleFault}
 use Rattle.arz_request.specs.declared.style.StyleFault.TheVariants as style
 use Rattle.arz_request.specs.declared.faults.BuildFault.{BuildFault}
 use Rattle.arz_request.specs.declared.faults.BuildFault.TheVariants.{Stuck, Memory}
 
--- what is made, or the cause why it can't be; memory may run out in place of either
-abbrev pub Builds : {X : Type 0} → Result X BuildFault → Made X → Type 0
-Builds (Ok x) made = made ≡ Ok x
-Builds (Err (Stuck why)) made = made ≡ Err why
-Builds (Err Memory) made = Unit {0}
+-- the cause that is told; want of memory is none
+abbrev pub told : BuildFault → Option Cause
+told (Stuck why) = Some why
+told Memory = None
 
 -- ---- for private clauses
-
--- the same of a `Vec`
-abbrev pub BuildsAll : {X A : Type 0} → Result (Vec X A) BuildFault → Made (List X) → Type 0
-BuildsAll (Ok xs) made = made ≡ Ok xs.items
-BuildsAll (Err (Stuck why)) made = made ≡ Err why
-BuildsAll (Err Memory) made = Unit {0}
 
 abbrev pub fault_of_style : StyleFault → BuildFault
 fault_of_style style.NotSerializable = Stuck cause.NotSerializable

@@ -4,6 +4,8 @@ use Rattle.std.specs.Fmt.{signed_decimal}
 use Rattle.std.specs.declared.option.Option.TheVariants.{None, Some}
 use Rattle.std.specs.declared.result.Result.{Result}
 use Rattle.std.specs.declared.result.Result.TheVariants.{Ok, Err}
+use Rattle.arz_json.specs.Answer.{Fails}
+use Rattle.arz_flow.specs.declared.answers.Cause.{Cause}
 use Rattle.arz_flow.specs.declared.answers.Cause.TheVariants as cause
 use Rattle.arz_flow.specs.Outcomes.{Made, made_of}
 use Rattle.arz_flow.specs.Styles.{escaped, flag_text}
@@ -13,23 +15,18 @@ use Rattle.arz_request.specs.declared.style.Scalar.TheVariants.{Flag, Int, Text}
 use Rattle.arz_request.specs.declared.style.StyleFault.{StyleFault}
 use Rattle.arz_request.specs.declared.style.StyleFault.TheVariants.{NotSerializable, FractionUsed, Memory}
 
--- the fault is the cause why nothing is made; memory may run out in any case
-abbrev pub Fails : {X : Type 0} → StyleFault → Made X → Type 0
-Fails NotSerializable made = made ≡ Err cause.NotSerializable
-Fails FractionUsed made = made ≡ Err cause.FractionUsed
-Fails Memory made = Unit {0}
-
--- what is made, or the fault
-abbrev pub Writes : {X : Type 0} → Result X StyleFault → Made X → Type 0
-Writes (Ok x) made = made ≡ Ok x
-Writes (Err fault) made = Fails fault made
+-- the cause that is told; want of memory is none
+abbrev pub told : StyleFault → Option Cause
+told NotSerializable = Some cause.NotSerializable
+told FractionUsed = Some cause.FractionUsed
+told Memory = None
 
 -- ---- for private clauses
 
 -- the text stands behind what was there
 abbrev pub Pushes : {X : Type 0} → List ℕ → List ℕ → Result X StyleFault → Made (List ℕ) → Type 0
 Pushes old new (Ok x) made = made_of (λ text. old ++ text) made ≡ Ok new
-Pushes old new (Err fault) made = Fails fault made
+Pushes old new (Err fault) made = Fails (told fault) made
 
 abbrev pub scalar_text : Scalar → List ℕ
 scalar_text (Flag b) = flag_text b
@@ -40,7 +37,7 @@ scalar_text (Text s) = escaped s.now
 abbrev pub IsPart : Result (Option Scalar) StyleFault → Made (Option (List ℕ)) → Type 0
 IsPart (Ok None) made = made ≡ Ok None
 IsPart (Ok (Some scalar)) made = made ≡ Ok (Some (scalar_text scalar))
-IsPart (Err fault) made = Fails fault made
+IsPart (Err fault) made = Fails (told fault) made
 
 -- a null that stands alone has no bytes
 abbrev pub alone : Made (Option (List ℕ)) → Made (List ℕ)

@@ -1,13 +1,14 @@
 // The parameters that a step gives, filled and written.
 ghost use Rattle.std.specs.Prelude.{◌≡◌, IfOk, IfSome};
 ghost use Rattle.std.specs.Option.{option_copied};
+ghost use Rattle.arz_json.specs.Answer.{Gives};
 ghost use Rattle.arz_json.specs.Tree.{IsWellFormed};
 ghost use Rattle.arz_expr.specs.Reading.{after};
 ghost use Rattle.arz_flow.specs.Fillings.{filling};
 ghost use Rattle.arz_flow.specs.Parameters.{parameters_of, parameter_of, parameter_by, component_key, component_with, component_at as component_named, component_of as component_meant};
 ghost use Rattle.arz_flow.specs.Requests.{given, all_given, written_as};
 ghost use Rattle.arz_flow.specs.Shallow.{IsShallow};
-ghost use Rattle.arz_request.specs.Builds.{Builds, BuildsAll};
+ghost use Rattle.arz_request.specs.Builds.{told};
 
 use crate::faults::BuildFault;
 use crate::style::simple;
@@ -75,7 +76,7 @@ pub(crate) fn write_all<S: Scope>(
 ) -> Result<Vec<Written>, BuildFault>
     requires description { IsWellFormed description.now }
     requires step { IsWellFormed step.now }
-    ensures { BuildsAll result (all_given (S.found scope.now) (parameters_of description.now step.now)) }
+    ensures { Gives (λ all. all.items) told result (all_given (S.found scope.now) (parameters_of description.now step.now)) }
 {
     let mut all = Vec::new(alloc);
     for item in items_at(step, "parameters") {
@@ -93,7 +94,7 @@ fn write<S: Scope>(
 ) -> Result<Written, BuildFault>
     requires description { IsWellFormed description.now }
     requires item { IsWellFormed item.now }
-    ensures { Builds result (given (S.found scope.now) (parameter_of description.now item.now)) }
+    ensures { Gives (λ g. g) told result (given (S.found scope.now) (parameter_of description.now item.now)) }
 {
     let component = component_of(description, item);
     let value = filled(alloc, component, item, scope)?;
@@ -148,7 +149,7 @@ fn filled<S: Scope>(
 ) -> Result<Json, BuildFault>
     requires component { IsWellFormed component.now }
     requires item { IsWellFormed item.now }
-    ensures builds { Builds result (filling (S.found scope.now) (parameter_by component.now item.now).value) }
+    ensures builds { Gives (λ value. value) told result (filling (S.found scope.now) (parameter_by component.now item.now).value) }
     ensures shallow { IfOk result IsShallow }
 {
     match item.get("value") {
@@ -162,7 +163,7 @@ fn filled<S: Scope>(
 
 fn fill_value<S: Scope>(alloc: Global, value: &Json, scope: &S) -> Result<Json, BuildFault>
     requires { IsWellFormed value.now }
-    ensures builds { Builds result (filling (S.found scope.now) value.now) }
+    ensures builds { Gives (λ value. value) told result (filling (S.found scope.now) value.now) }
     ensures shallow { IfOk result IsShallow }
 {
     let template = Template::read(alloc, value)?;
@@ -171,10 +172,10 @@ fn fill_value<S: Scope>(alloc: Global, value: &Json, scope: &S) -> Result<Json, 
 
 fn write_value(alloc: Global, name: &str, value: Json) -> Result<Written, BuildFault>
     requires { IsShallow value }
-    ensures { Builds result (written_as name.now value) }
+    ensures { Gives (λ g. g) told result (written_as name.now value) }
 {
     let text = simple(alloc, &value)?;
-    let name = Text::from_std(String::from_str(alloc, name)?);
+    let name = Text::from_str(alloc, name)?;
     let sent = Sent {
         place: Location::Path,
         name,

@@ -2,6 +2,7 @@
 ghost use Rattle.std.specs.Prelude.{All, ◌≡◌, ◌++◌, IfOk, OnOk, map, unwrap_or, string_bytes};
 ghost use Rattle.std.specs.Str.{str_to_ascii_uppercase};
 ghost use Rattle.std.specs.Option.{option_copied};
+ghost use Rattle.arz_json.specs.Answer.{Gives};
 ghost use Rattle.arz_json.specs.Tree.{IsWellFormed};
 ghost use Rattle.arz_flow.specs.Documents.{workflow_named as workflow_with, steps_of};
 ghost use Rattle.arz_flow.specs.Parameters.{parameters_of};
@@ -9,7 +10,7 @@ ghost use Rattle.arz_flow.specs.Requests.{expanded, request_by, request_to, with
 ghost use Rattle.arz_flow.specs.Shallow.{IsShallow, SendsShallow};
 ghost use Rattle.arz_flow.specs.Urls.{server_of as server_named};
 ghost use Rattle.arz_request.specs.Authority.{server_seen};
-ghost use Rattle.arz_request.specs.Builds.{Builds, FitsIn};
+ghost use Rattle.arz_request.specs.Builds.{told, FitsIn};
 ghost use Rattle.arz_request.specs.Operations.{seen};
 
 use crate::faults::BuildFault;
@@ -63,7 +64,7 @@ pub fn request<S: Scope>(
 ) -> Result<Request, BuildFault>
     requires description { IsWellFormed description.now }
     requires step { IsWellFormed step.now }
-    ensures builds { Builds result (request_by (S.found scope.now) (seen operation.now) (parameters_of description.now step.now)) }
+    ensures builds { Gives (λ q. q) told result (request_by (S.found scope.now) (seen operation.now) (parameters_of description.now step.now)) }
     ensures shallow { IfOk result SendsShallow }
 {
     let parameters = write_all(alloc, description, step, scope)?;
@@ -75,7 +76,7 @@ fn make(
     operation: &OperationAt,
     parameters: Vec<Written>,
 ) -> Result<Request, BuildFault>
-    ensures builds { Builds result (within_limit (request_to (seen operation.now) parameters.items)) }
+    ensures builds { Gives (λ q. q) told result (within_limit (request_to (seen operation.now) parameters.items)) }
     ensures shallow { IfOk result SendsShallow }
 {
     let target = target(alloc, operation.path, parameters.as_slice())?;
@@ -107,7 +108,7 @@ fn assemble(
 
 fn within(request: Request) -> Result<Request, BuildFault>
     requires { SendsShallow request }
-    ensures builds { Builds result (within_limit request) }
+    ensures builds { Gives (λ q. q) told result (within_limit request) }
     ensures shallow { IfOk result SendsShallow }
 {
     if is_within_limit(&request) {
@@ -151,7 +152,7 @@ fn make_server(alloc: Global, authority: &Authority) -> Result<Server, AllocErro
     ensures { IfOk result (λ s. s ≡ server_seen authority.now) }
 {
     Ok(Server {
-        host: Text::from_std(String::from_str(alloc, authority.host)?),
+        host: Text::from_str(alloc, authority.host)?,
         port: authority.port,
         base: Text::from_std(String::new(alloc)),
     })
@@ -183,7 +184,7 @@ fn header(alloc: Global, name: &str, value: &str) -> Result<Header, AllocError>
     ensures { IfOk result (λ h. h ≡ header_of name.now value.now) }
 {
     Ok(Header {
-        name: Text::from_std(String::from_str(alloc, name)?),
+        name: Text::from_str(alloc, name)?,
         value: Bytes::from_std(value.as_bytes().to_vec(alloc)?),
     })
 }

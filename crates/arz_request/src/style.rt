@@ -1,7 +1,8 @@
 // A value in the style `simple` of a parameter (OpenAPI 3.1.1, 4.8.12.6; RFC 6570, 3.2.2).
 ghost use Rattle.std.specs.Prelude.{◌≡◌, ◌++◌, codes, OnOk, string_bytes};
+ghost use Rattle.arz_json.specs.Answer.{Gives};
 ghost use Rattle.arz_flow.specs.Styles.{simple as simple_text, item_texts, member_texts, part, escaped};
-ghost use Rattle.arz_request.specs.Simple.{Writes, Pushes, IsPart, joined_texts, separator, scalar_text, alone};
+ghost use Rattle.arz_request.specs.Simple.{told, Pushes, IsPart, joined_texts, separator, scalar_text, alone};
 ghost use Rattle.arz_request.specs.declared.style.StyleFault.TheVariants.{Memory};
 
 use arz_json::{Json, Member, Text};
@@ -53,7 +54,7 @@ pub(crate) enum Scalar<'a> {
 /// names that isn't unreserved is percent-encoded. The first item or member that has no text decides
 /// the fault.
 pub fn simple(alloc: Global, value: &Json) -> Result<Text, StyleFault>
-    ensures { Writes result (simple_text value.now) }
+    ensures { Gives (λ text. text) told result (simple_text value.now) }
 {
     let mut text = String::new(alloc);
     push_simple(&mut text, value)?;

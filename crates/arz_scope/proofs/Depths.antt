@@ -1,11 +1,12 @@
 -- What a run's shallow trees hold is shallow.
-use Rattle.std.proofs.Common.{◌≡◌, ◌<◌, ◌^◌, pos, ℕ, List, [], Bool, true, false, cond, Option, Some, None, option_and_then, unwrap_or, get_or, refl, sym, ◌∙◌, subst, arith, rules, option_map}
+use Rattle.std.proofs.Common.{◌≡◌, ◌<◌, ◌^◌, pos, ℕ, suc, List, [], ◌∷◌, Bool, true, false, cond, Option, Some, None, option_and_then, unwrap_or, get_or, refl, sym, ◌∙◌, subst, arith, rules, option_map}
 use Rattle.std.specs.Prelude.{nat_lt, All, IfSome}
 use Rattle.std.specs.Borrow.{Bor}
 use Rattle.std.specs.Option.{option_copied}
-use Rattle.std.specs.Str.{is_utf8}
+use Rattle.std.specs.Str.{is_utf8, bytes_eq}
 use Rattle.std.proofs.lemmas.Bool.Decides.{nat_tests}
 use Rattle.std.proofs.lemmas.Option.{option_and_then_some, slice_get-get_or, same_Some}
+use Rattle.arz_json.specs.Pointer.{member_named}
 use Rattle.arz_json.specs.Tree.{has_form, depth, IsWellFormed}
 use Rattle.arz_json.specs.Look.{list_in, object_in, member_in}
 use Rattle.arz_json.specs.declared.tree.Json.{Json, the_lemmas}
@@ -55,6 +56,19 @@ each-shallow (Some b) o e h = h b.now (sym e)
 
 pub member-found : (r : Option (Bor Json)) (name : List ℕ) (j : Json) → option_copied r ≡ member_in name j → IsShallow j → IfSome r (λ k. IsShallow k.now)
 member-found r name j e w = each-shallow r (member_in name j) e (λ k f. IsWithin-member_in 127 name j k f w)
+
+-- the value of a member
+named-at : (b : Bool) (m : Member) (ms : List Member) (name : List ℕ) (k : Json) → cond b (Some m.value) (member_named ms name) ≡ Some k → IsShallow m.value → (member_named ms name ≡ Some k → IsShallow k) → IsShallow k
+named-at true m ms name k e here more = subst IsShallow (same_Some m.value k e) here
+named-at false m ms name k e here more = more e
+
+named-shallow : (ms : List Member) (name : List ℕ) (k : Json) → member_named ms name ≡ Some k → AreShallow ms → IsShallow k
+named-shallow [] name k e s = absurd (cc)
+named-shallow (m ∷ ms) name k e s =
+    named-at (bytes_eq m.name name) m ms name k e (s 0 m (omega arith)) (λ f. named-shallow ms name k f (λ i d lt. s (suc i) d (omega (arith, lt))))
+
+pub value-found : (r : Option (Bor Json)) (ms : List Member) (name : List ℕ) → option_copied r ≡ member_named ms name → AreShallow ms → IfSome r (λ k. IsShallow k.now)
+value-found r ms name e s = each-shallow r (member_named ms name) e (λ k f. named-shallow ms name k f s)
 
 text-shallow : (bytes : List ℕ) (b : Bool) (k : Json) → cond b (Some (Text bytes)) None ≡ Some k → IsShallow k
 text-shallow bytes true k e = subst IsShallow (same_Some (Text bytes) k e) (Text-shallow bytes)

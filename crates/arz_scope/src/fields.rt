@@ -26,7 +26,7 @@ pub fn text_of(alloc: Global, bytes: &[u8]) -> Result<Option<Json>, AllocError>
     ensures { IfOk result (λ value. value ≡ text_in bytes.now) }
 {
     match str::from_utf8(bytes) {
-        Ok(text) => Ok(Some(Json::Text(Text::from_std(String::from_str(alloc, text)?)))),
+        Ok(text) => Ok(Some(Json::Text(Text::from_str(alloc, text)?))),
         Err(_) => Ok(None),
     }
 }

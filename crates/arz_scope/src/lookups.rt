@@ -10,19 +10,14 @@ ghost use Rattle.arz_flow.specs.Shallow.{IsShallow, AreShallow, HaveShallow};
 ghost use Rattle.arz_scope.specs.Sources.{openapi as openapi_type};
 
 use arz_flow::{Fact, items_at, text_at};
-use arz_json::{Json, Member};
+use arz_json::{Json, Member, value_named};
 
 /// The value of the member with this name.
 pub fn member_value<'a>(members: &'a [Member], name: &str) -> Option<&'a Json>
     ensures value { option_copied result ≡ member_named members.now name.now }
     ensures shallow { AreShallow members.now → IfSome result (λ value. IsShallow value.now) }
 {
-    for member in members {
-        if member.name.as_str() == name {
-            return Some(&member.value);
-        }
-    }
-    None
+    value_named(members, name)
 }
 
 // The last fact of a step.

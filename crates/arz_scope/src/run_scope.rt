@@ -59,7 +59,7 @@ impl<'a> RunScope<'a> {
           exchange = option_copied exchange.entry;
         }) }
     {
-        let openapi = Json::Text(Text::from_std(String::from_str(alloc, "openapi")?));
+        let openapi = Json::Text(Text::from_str(alloc, "openapi")?);
         Ok(RunScope {
             description,
             inputs,

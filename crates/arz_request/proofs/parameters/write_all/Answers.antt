@@ -1,4 +1,4 @@
-use Rattle.std.proofs.Common.{codes, Global}
+use Rattle.std.proofs.Common.{codes}
 use Rattle.std.proofs.lemmas.Result.{err_from_is_err_and}
 use Rattle.arz_request.proofs.Forms.{item-form}
 use Rattle.arz_request.proofs.Given.{one-more, fails}
@@ -14,7 +14,7 @@ returns-in_err-write g c =
     let l = c.loop-item in
     let p = err_from_is_err_and c.from_residual.result c.from_residual.ensures.1 in
     rw (p.1, p.2, ← c.items_at-item-items.ensures)
-    (fails (g.S.Scope.found c.args.scope.now) c.args.description.now Global c.items_at-item-items.result.now l.item-index c.item-item.result l.all.items c.in_err-write.field-0.0
+    (fails (g.S.Scope.found c.args.scope.now) c.args.description.now c.items_at-item-items.result.now l.item-index c.item-item.result l.all.items c.in_err-write.field-0.0
     c.loop-item-test.true c.item-item.is l.invariant c.in_err-write.ensures)
 
 pub loop-item-preserved : goal.loop-item-preserved
