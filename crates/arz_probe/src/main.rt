@@ -5,11 +5,10 @@
 
 mod paths;
 mod query_report;
-mod regex_patterns;
 mod report;
 
+use arz_real::RegexPatterns;
 use query_report::{iregexp_report, path_report};
-use regex_patterns::RegexPatterns;
 use report::{Report, file_report, unwire_report, wire_report, words_report};
 use std::alloc::AllocError;
 use std::io::{ErrorKind, Write};

@@ -2,19 +2,16 @@
 //! status.
 #![tactic(auto)]
 
-mod folder_files;
-mod stdout_sink;
 #[cfg(test)]
 mod tests;
 
+use arz_real::{FolderFiles, StdoutSink};
 use arz_top::run_words;
 use arz_world::Sink;
-use folder_files::FolderFiles;
 use std::alloc::AllocError;
 use std::env;
 use std::io::ErrorKind;
 use std::process::ExitCode;
-use stdout_sink::StdoutSink;
 
 // The status where memory ran out.
 const OUT_OF_MEMORY: u8 = 11;

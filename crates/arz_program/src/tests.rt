@@ -1,5 +1,4 @@
-use crate::folder_files::FolderFiles;
-use crate::stdout_sink::StdoutSink;
+use arz_real::{FolderFiles, StdoutSink};
 use arz_world::{FileFault, Files, Sink};
 use std::test::Fail;
 use std::{env, fs, process};
