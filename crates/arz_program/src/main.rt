@@ -5,7 +5,7 @@
 #[cfg(test)]
 mod tests;
 
-use arz_real::{FolderFiles, StdoutSink};
+use arz_real::{FolderFiles, RegexPatterns, StdoutSink};
 use arz_top::run_words;
 use arz_world::Sink;
 use std::alloc::AllocError;
@@ -23,7 +23,8 @@ fn main(rt: HostRuntime) -> ExitCode {
         let _ = out.put(b"memory\n");
         return ExitCode::from(OUT_OF_MEMORY);
     };
-    ExitCode::from(run_words(rt.alloc(), &words, &mut files, &mut out))
+    let mut rx = RegexPatterns::new(rt.alloc());
+    ExitCode::from(run_words(rt.alloc(), &words, &mut files, &mut out, &mut rx))
 }
 
 // The words behind the program's name, or none where one of them is no UTF-8.

@@ -3,10 +3,11 @@ use crate::case::Case;
 use crate::fault::CaseFault;
 use crate::outcome::Outcome;
 use crate::outside::{files_of, sink_of};
+use crate::patterns::patterns_of;
 use arz_top::run_words;
 use std::alloc::Global;
 
-/// Runs `words` over the case's files.
+/// Runs `words` over the case's files, sink and patterns.
 pub fn words(alloc: Global, case: &Case<'_>) -> Result<Outcome, CaseFault> {
     let mut words = Vec::new(alloc);
     for word in case.items("words") {
@@ -15,7 +16,8 @@ pub fn words(alloc: Global, case: &Case<'_>) -> Result<Outcome, CaseFault> {
     }
     let mut files = files_of(alloc, case)?;
     let mut out = sink_of(alloc, case)?;
-    let status = run_words(alloc, &words, &mut files, &mut out);
+    let mut rx = patterns_of(alloc, case)?;
+    let status = run_words(alloc, &words, &mut files, &mut out, &mut rx);
     let text = out.bytes().to_vec(alloc)?;
     Ok(Outcome {
         text,

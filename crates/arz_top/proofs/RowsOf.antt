@@ -1,5 +1,5 @@
 -- The rows follow from how a call ends.
-use Rattle.std.proofs.Common.{◌≡◌, inl, inr, ℕ, List, refl, sym, ◌∙◌, ap, arith, subst, Result, Ok, Err}
+use Rattle.std.proofs.Common.{◌≡◌, ◌⊎◌, inl, inr, ℕ, List, refl, sym, ◌∙◌, ap, arith, subst, Result, Ok, Err}
 use Rattle.arz_json.specs.declared.Member.{Member}
 use Rattle.arz_json.specs.declared.Refusal.{Refusal}
 use Rattle.arz_world.specs.Outside.{Gains, Rose, FilesView, SinkView}
@@ -15,11 +15,11 @@ use Rattle.arz_bundle.specs.declared.fault.LoadFault.TheVariants.{File as FileFa
 use Rattle.arz_bundle.specs.Loading.{Loads, Gives_replies}
 use Rattle.arz_bundle.proofs.Stages.{loads-file, replies-file}
 use Rattle.arz_top.specs.declared.words.Command.{Command}
-use Rattle.arz_top.specs.declared.words.Command.TheVariants.{Mock, Unknown}
+use Rattle.arz_top.specs.declared.words.Command.TheVariants.{Mock, Check, Unknown}
 use Rattle.arz_session.specs.declared.session.Session.{Session}
 use Rattle.arz_top.specs.declared.ending.Ending.{Ending}
-use Rattle.arz_top.specs.declared.ending.Ending.TheVariants.{Words, File, Refused, Played}
-use Rattle.arz_top.specs.Endings.{Faulted, Plays, FromBundle, Mocks, Comes}
+use Rattle.arz_top.specs.declared.ending.Ending.TheVariants.{Words, File, Refused, Ready, Played}
+use Rattle.arz_top.specs.Endings.{Faulted, Plays, FromBundle, Mocks, Checks, Comes}
 use Rattle.arz_top.specs.Report.{report, status, end_status}
 use Rattle.arz_top.specs.Ends.{Ends, Whole}
 use Rattle.arz_top.specs.Rows.{Rows}
@@ -71,46 +71,53 @@ ended-14 s (Budget limit) is st = absurd (omega (arith, st))
 ended-14 s (Stuck cause at) is st = absurd (omega (arith, st))
 ended-14 s (Out ask) is st = (ask, is)
 
-at-0 : (e : Ending) → status e ≡ 0 → (s : Session) × (outputs : List Member) × (e ≡ Played s) × (s.end ≡ Completed outputs)
+at-0 : (e : Ending) → status e ≡ 0 → ((s : Session) × (outputs : List Member) × (e ≡ Played s) × (s.end ≡ Completed outputs)) ⊎ (e ≡ Ready)
 at-0 Words st = absurd (omega (arith, st))
 at-0 (File path) st = absurd (omega (arith, st))
 at-0 (Refused refusal) st = absurd (omega (arith, st))
-at-0 (Played s) st = let o = ended-0 s s.end refl st in (s, o.0, refl, o.1)
+at-0 Ready st = inr refl
+at-0 (Played s) st = let o = ended-0 s s.end refl st in inl (s, o.0, refl, o.1)
 
 at-1 : (e : Ending) → status e ≡ 1 → (s : Session) × (outputs : List Member) × (e ≡ Played s) × (s.end ≡ Broke outputs)
 at-1 Words st = absurd (omega (arith, st))
 at-1 (File path) st = absurd (omega (arith, st))
 at-1 (Refused refusal) st = absurd (omega (arith, st))
+at-1 Ready st = absurd (omega (arith, st))
 at-1 (Played s) st = let o = ended-1 s s.end refl st in (s, o.0, refl, o.1)
 
 at-6 : (e : Ending) → status e ≡ 6 → (s : Session) × (limit : ℕ) × (e ≡ Played s) × (s.end ≡ Budget limit)
 at-6 Words st = absurd (omega (arith, st))
 at-6 (File path) st = absurd (omega (arith, st))
 at-6 (Refused refusal) st = absurd (omega (arith, st))
+at-6 Ready st = absurd (omega (arith, st))
 at-6 (Played s) st = let o = ended-6 s s.end refl st in (s, o.0, refl, o.1)
 
 at-7 : (e : Ending) → status e ≡ 7 → (s : Session) × (cause : Cause) × (at : Spot) × (e ≡ Played s) × (s.end ≡ Stuck cause at)
 at-7 Words st = absurd (omega (arith, st))
 at-7 (File path) st = absurd (omega (arith, st))
 at-7 (Refused refusal) st = absurd (omega (arith, st))
+at-7 Ready st = absurd (omega (arith, st))
 at-7 (Played s) st = let o = ended-7 s s.end refl st in (s, o.0, o.1, refl, o.2)
 
 at-3 : (e : Ending) → status e ≡ 3 → (refusal : Refusal) × (e ≡ Refused refusal)
 at-3 Words st = absurd (omega (arith, st))
 at-3 (File path) st = absurd (omega (arith, st))
 at-3 (Refused refusal) st = (refusal, refl)
+at-3 Ready st = absurd (omega (arith, st))
 at-3 (Played s) st = absurd (not s.end 3 (λ h. omega (arith, h)) (λ h. omega (arith, h)) (λ h. omega (arith, h)) (λ h. omega (arith, h)) (λ h. omega (arith, h)) st)
 
 at-13 : (e : Ending) → status e ≡ 13 → (path : List ℕ) × (e ≡ File path)
 at-13 Words st = absurd (omega (arith, st))
 at-13 (File path) st = (path, refl)
 at-13 (Refused refusal) st = absurd (omega (arith, st))
+at-13 Ready st = absurd (omega (arith, st))
 at-13 (Played s) st = absurd (not s.end 13 (λ h. omega (arith, h)) (λ h. omega (arith, h)) (λ h. omega (arith, h)) (λ h. omega (arith, h)) (λ h. omega (arith, h)) st)
 
 at-14 : (e : Ending) → status e ≡ 14 → (s : Session) × (ask : Ask) × (e ≡ Played s) × (s.end ≡ Out ask)
 at-14 Words st = absurd (omega (arith, st))
 at-14 (File path) st = absurd (omega (arith, st))
 at-14 (Refused refusal) st = absurd (omega (arith, st))
+at-14 Ready st = absurd (omega (arith, st))
 at-14 (Played s) st = let o = ended-14 s s.end refl st in (s, o.0, refl, o.1)
 
 -- no ending has the status of a failed sink
@@ -118,6 +125,7 @@ never-10 : (e : Ending) → status e ≡ 10 → ⊥
 never-10 Words st = omega (arith, st)
 never-10 (File path) st = omega (arith, st)
 never-10 (Refused refusal) st = omega (arith, st)
+never-10 Ready st = omega (arith, st)
 never-10 (Played s) st = not s.end 10 (λ h. omega (arith, h)) (λ h. omega (arith, h)) (λ h. omega (arith, h)) (λ h. omega (arith, h)) (λ h. omega (arith, h)) st
 
 -- ---- what a command comes to
@@ -128,6 +136,7 @@ module _ (files files_now : FilesView) where
   Caused Words = ⊥
   Caused (File path) = Rose (files.faults path) (files_now.faults path)
   Caused (Refused refusal) = Unit {0}
+  Caused Ready = Unit {0}
   Caused (Played session) = Unit {0}
 
   caused-fault : (fault : LoadFault) (e : Ending) → ((path : List ℕ) → fault ≡ FileFault path → Rose (files.faults path) (files_now.faults path)) → Faulted fault e → Caused e
@@ -150,14 +159,22 @@ module _ (files files_now : FilesView) where
   caused-setup : (setup replies : List ℕ) (e : Ending) → Mocks files files_now replies setup e → Caused e
   caused-setup setup replies e (x, loads, goes) = caused-bundle setup replies x e loads goes
 
+  caused-check : (setup : List ℕ) (e : Ending) → Checks files files_now setup e → Caused e
+  caused-check setup e (Ok bundle, loads, is) = subst Caused (sym is) tt
+  caused-check setup e (Err fault, loads, told) =
+      let P : LoadFault → Type 0 = λ f. Loads files files_now setup (Err f) in
+      caused-fault fault e (λ p is. loads-file files files_now p setup (subst P is loads)) told
+
   not-words : (e : Ending) → Caused e → status e ≡ 2 → ⊥
   not-words Words c st = c
   not-words (File path) c st = omega (arith, st)
   not-words (Refused refusal) c st = omega (arith, st)
+  not-words Ready c st = omega (arith, st)
   not-words (Played s) c st = not s.end 2 (λ h. omega (arith, h)) (λ h. omega (arith, h)) (λ h. omega (arith, h)) (λ h. omega (arith, h)) (λ h. omega (arith, h)) st
 
   words-only : (command : Command) (e : Ending) → Comes files files_now command e → status e ≡ 2 → command ≡ Unknown
   words-only Unknown e came st = refl
+  words-only (Check setup) e came st = absurd (not-words e (caused-check setup e came) st)
   words-only (Mock setup replies) e came st = absurd (not-words e (caused-setup setup replies e came) st)
 
   words-status : (e : Ending) → Comes files files_now Unknown e → status e ≡ 2
@@ -165,11 +182,40 @@ module _ (files files_now : FilesView) where
 
   file-cause : (command : Command) (path : List ℕ) → Comes files files_now command (File path) → Rose (files.faults path) (files_now.faults path)
   file-cause Unknown path came = absurd (let n : 13 ≡ 2 = ap status came in omega (arith, n))
+  file-cause (Check setup) path came = caused-check setup (File path) came
   file-cause (Mock setup replies) path came = caused-setup setup replies (File path) came
+
+  -- only files that are checked, and that give a bundle, come to the ending of such
+
+  ready-faulted : (fault : LoadFault) → Faulted fault Ready → ⊥
+  ready-faulted (FileFault path) is = cc
+  ready-faulted (RefusedFault refusal) is = cc
+  ready-faulted Memory is = is
+
+  ready-plays : (bundle : Bundle) (given : Result (List Reply) LoadFault) → Plays bundle given Ready → ⊥
+  ready-plays bundle (Ok replies) (session, mock, is) = cc
+  ready-plays bundle (Err fault) told = ready-faulted fault told
+
+  ready-bundle : (replies : List ℕ) (loaded : Result Bundle LoadFault) → FromBundle files files_now replies loaded Ready → ⊥
+  ready-bundle replies (Ok bundle) (given, gives, plays) = ready-plays bundle given plays
+  ready-bundle replies (Err fault) told = ready-faulted fault told
+
+  abbrev Gave : Command → Type 0
+  Gave command = (setup : List ℕ) × (bundle : Bundle) × (command ≡ Check setup) × Loads files files_now setup (Ok bundle)
+
+  ready-check : (setup : List ℕ) → Checks files files_now setup Ready → Gave (Check setup)
+  ready-check setup (Ok bundle, loads, is) = (setup, bundle, refl, loads)
+  ready-check setup (Err fault, loads, told) = absurd (ready-faulted fault told)
+
+  ready-only : (command : Command) → Comes files files_now command Ready → Gave command
+  ready-only Unknown came = absurd (cc)
+  ready-only (Check setup) came = ready-check setup came
+  ready-only (Mock setup replies) (loaded, loads, came) = absurd (ready-bundle replies loaded came)
 
 -- where the words come to one ending alone, each answer tells it
 exactly : (Came : Ending → Type 0) (answer : ℕ) (e : Ending) → answer ≡ status e → ((other : Ending) → Came other → e ≡ other) → Exact Came answer
 exactly Came answer e answered one = record {
+  ready = λ came. answered ∙ ap status (one Ready came);
   completed = λ s outputs came is. answered ∙ ap status (one (Played s) came) ∙ ap end_status is;
   broke = λ s outputs came is. answered ∙ ap status (one (Played s) came) ∙ ap end_status is;
   words = λ came. answered ∙ ap status (one Words came);
@@ -185,7 +231,10 @@ module _ (files files_now : FilesView) (command : Command) (sink sink_now : Sink
 
   rows_whole : Whole Came sink sink_now answer → Rows files files_now command sink sink_now answer
   rows_whole w = record {
-    completed = λ is. let r = at-0 w.ending (sym w.answered ∙ is) in (r.0, r.1, subst Came r.2 w.came, r.3);
+    completed = λ is. elim (at-0 w.ending (sym w.answered ∙ is)) [
+      | inl r ↦ inl (r.0, r.1, subst Came r.2 w.came, r.3)
+      | inr ready ↦ inr (ready-only files files_now command (subst Came ready w.came))
+    ];
     broke = λ is. let r = at-1 w.ending (sym w.answered ∙ is) in (r.0, r.1, subst Came r.2 w.came, r.3);
     budget = λ is. let r = at-6 w.ending (sym w.answered ∙ is) in (r.0, r.1, subst Came r.2 w.came, r.3);
     stuck = λ is. let r = at-7 w.ending (sym w.answered ∙ is) in (r.0, r.1, r.2, subst Came r.3 w.came, r.4);

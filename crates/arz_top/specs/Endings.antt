@@ -9,10 +9,10 @@ use Rattle.arz_bundle.specs.declared.fault.LoadFault.{LoadFault}
 use Rattle.arz_bundle.specs.declared.fault.LoadFault.TheVariants.{File as FileFault, Refused as RefusedFault, Memory}
 use Rattle.arz_bundle.specs.Loading.{Loads, Gives_replies}
 use Rattle.arz_top.specs.declared.words.Command.{Command}
-use Rattle.arz_top.specs.declared.words.Command.TheVariants.{Mock, Unknown}
+use Rattle.arz_top.specs.declared.words.Command.TheVariants.{Mock, Check, Unknown}
 use Rattle.arz_session.specs.declared.session.Session.{Session}
 use Rattle.arz_top.specs.declared.ending.Ending.{Ending}
-use Rattle.arz_top.specs.declared.ending.Ending.TheVariants.{Words, File, Refused, Played}
+use Rattle.arz_top.specs.declared.ending.Ending.TheVariants.{Words, File, Refused, Ready, Played}
 use Rattle.arz_session.specs.Mock.{IsMock}
 
 -- where files give nothing, the ending tells why; want of memory comes to no ending
@@ -25,6 +25,11 @@ Faulted Memory ending = ⊥
 abbrev pub Plays : Bundle → Result (List Reply) LoadFault → Ending → Type 0
 Plays bundle (Ok replies) ending = (session : Session) × IsMock bundle replies session × (ending ≡ Played session)
 Plays bundle (Err fault) ending = Faulted fault ending
+
+-- nothing more, where the files give a bundle
+abbrev pub Stands : Result Bundle LoadFault → Ending → Type 0
+Stands (Ok bundle) ending = ending ≡ Ready
+Stands (Err fault) ending = Faulted fault ending
 
 -- before, now: what the files show at the call's beginning and end
 module _ (before now : FilesView) (replies : List ℕ) where
@@ -40,7 +45,12 @@ module _ (before now : FilesView) (replies : List ℕ) where
   Mocks setup ending = (loaded : Result Bundle LoadFault) × Loads before now setup loaded × FromBundle loaded ending
 
 module _ (before now : FilesView) where
+  -- the files of the setup alone
+  abbrev pub Checks : List ℕ → Ending → Type 0
+  Checks setup ending = (loaded : Result Bundle LoadFault) × Loads before now setup loaded × Stands loaded ending
+
   -- what these words come to
   abbrev pub Comes : Command → Ending → Type 0
   Comes Unknown ending = ending ≡ Words
+  Comes (Check setup) ending = Checks setup ending
   Comes (Mock setup replies) ending = Mocks before now replies setup ending

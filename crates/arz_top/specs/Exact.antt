@@ -8,10 +8,11 @@ use Rattle.arz_flow.specs.declared.answers.Spot.{Spot}
 use Rattle.arz_flow.specs.declared.answers.End.TheVariants.{Completed, Broke, Out, Stuck, Budget}
 use Rattle.arz_session.specs.declared.session.Session.{Session}
 use Rattle.arz_top.specs.declared.ending.Ending.{Ending}
-use Rattle.arz_top.specs.declared.ending.Ending.TheVariants.{Words, Refused, Played}
+use Rattle.arz_top.specs.declared.ending.Ending.TheVariants.{Words, Refused, Ready, Played}
 
 -- Came: the endings that the words may come to
 pub record Exact (Came : Ending → Type 0) (answer : ℕ) : Type 0 where
+  pub ready : Came Ready → answer ≡ 0
   pub completed : (s : Session) (outputs : List Member) → Came (Played s) → s.end ≡ Completed outputs → answer ≡ 0
   pub broke : (s : Session) (outputs : List Member) → Came (Played s) → s.end ≡ Broke outputs → answer ≡ 1
   pub words : Came Words → answer ≡ 2

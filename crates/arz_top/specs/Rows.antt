@@ -1,5 +1,5 @@
 -- The statuses, one by one.
-use Rattle.std.specs.Prelude.{◌≡◌, ◌≢◌, ◌⊎◌, ◌++◌, ℕ, List, codes}
+use Rattle.std.specs.Prelude.{◌≡◌, ◌≢◌, ◌⊎◌, ◌++◌, ℕ, List, Ok, codes}
 use Rattle.arz_json.specs.declared.Member.{Member}
 use Rattle.arz_json.specs.declared.Refusal.{Refusal}
 use Rattle.arz_world.specs.Outside.{Gains, Rose, FilesView, SinkView}
@@ -7,8 +7,10 @@ use Rattle.arz_flow.specs.declared.answers.Ask.{Ask}
 use Rattle.arz_flow.specs.declared.answers.Cause.{Cause}
 use Rattle.arz_flow.specs.declared.answers.Spot.{Spot}
 use Rattle.arz_flow.specs.declared.answers.End.TheVariants.{Completed, Broke, Out, Stuck, Budget}
+use Rattle.arz_flow.specs.declared.bundle.Bundle.{Bundle}
+use Rattle.arz_bundle.specs.Loading.{Loads}
 use Rattle.arz_top.specs.declared.words.Command.{Command}
-use Rattle.arz_top.specs.declared.words.Command.TheVariants.{Unknown}
+use Rattle.arz_top.specs.declared.words.Command.TheVariants.{Check, Unknown}
 use Rattle.arz_session.specs.declared.session.Session.{Session}
 use Rattle.arz_top.specs.declared.ending.Ending.{Ending}
 use Rattle.arz_top.specs.declared.ending.Ending.TheVariants.{Refused, Played}
@@ -19,8 +21,9 @@ use Rattle.arz_top.specs.Steady.{IsSteady}
 
 -- what the files and the sink show at the beginning of a call and at its end
 pub record Rows (files files_now : FilesView) (command : Command) (sink sink_now : SinkView) (answer : ℕ) : Type 0 where
-  -- 0 only where the workflow was completed
-  pub completed : answer ≡ 0 → (s : Session) × (outputs : List Member) × Comes files files_now command (Played s) × (s.end ≡ Completed outputs)
+  -- 0 only where the workflow was completed, or where the files of the setup that is checked give a bundle
+  pub completed : answer ≡ 0 → ((s : Session) × (outputs : List Member) × Comes files files_now command (Played s) × (s.end ≡ Completed outputs))
+      ⊎ ((setup : List ℕ) × (bundle : Bundle) × (command ≡ Check setup) × Loads files files_now setup (Ok bundle))
   -- 1 only where a step failed
   pub broke : answer ≡ 1 → (s : Session) × (outputs : List Member) × Comes files files_now command (Played s) × (s.end ≡ Broke outputs)
   -- 2 exactly where the words are no command

@@ -11,6 +11,8 @@ pub enum Ending {
     File(Text),
     /// This is the first rule that a document fails.
     Refused(Refusal),
+    /// The files of the setup give a bundle.
+    Ready,
     /// The workflow was run over the given replies.
     Played(Session),
 }

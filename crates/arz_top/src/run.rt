@@ -1,7 +1,7 @@
 // The top call.
-ghost use Rattle.std.specs.Prelude.{◌≡◌, map, string_bytes, codes, IfOk, MatchResult};
+ghost use Rattle.std.specs.Prelude.{◌≡◌, ◌≤◌, map, string_bytes, codes, IfOk, MatchResult};
 ghost use Rattle.arz_world.specs.Outside.{Gains, IsPrefix};
-ghost use Rattle.arz_top.specs.Endings.{Faulted, Mocks, Comes};
+ghost use Rattle.arz_top.specs.Endings.{Faulted, Mocks, Checks, Comes};
 ghost use Rattle.arz_top.specs.Report.{line};
 ghost use Rattle.arz_top.specs.Ends.{Ends};
 ghost use Rattle.arz_top.specs.Rows.{Rows};
@@ -11,24 +11,29 @@ use crate::ending::Ending;
 use crate::report::{report, status};
 use crate::words::{Command, read_words};
 use arz_bundle::{LoadFault, load};
+use arz_rx::Patterns;
 use arz_session::mock;
 use arz_world::{Files, Sink, SinkFault};
 use std::alloc::{AllocError, Global};
 
 /// Does what the words say, puts the report into the sink, and answers the status that the program
 /// ends with. The words come without the program's name. The clause `ends` says which report and
-/// status belong to the words and files; the clause `rows` tells it again status by status.
-pub fn run_words<F: Files, S: Sink>(
+/// status belong to the words and files; the clause `rows` tells it again status by status. `rx` is
+/// what searches for patterns; no file that is taken today has one.
+pub fn run_words<F: Files, S: Sink, P: Patterns>(
     alloc: Global,
     words: &[String],
     files: &mut F,
     out: &mut S,
+    rx: &mut P,
 ) -> u8
     ensures ends { Ends (Comes (F.files files.old) (F.files files.new) (taken (map string_bytes words.now)))
         (S.sink out.old) (S.sink out.new) result }
     ensures rows { Rows (F.files files.old) (F.files files.new) (taken (map string_bytes words.now))
         (S.sink out.old) (S.sink out.new) result }
+    ensures patterns { (P.patterns rx.old).too_big ≤ (P.patterns rx.new).too_big }
 {
+    let _ = rx;
     print(alloc, words, files, out)
 }
 
@@ -58,6 +63,7 @@ fn ending<F: Files>(alloc: Global, words: &[String], files: &mut F) -> Result<En
         Command::Mock(setup, replies) => {
             mock_files(alloc, files, setup.as_str(), replies.as_str())
         }
+        Command::Check(setup) => check_files(alloc, files, setup.as_str()),
         Command::Unknown => Ok(Ending::Words),
     }
 }
@@ -80,6 +86,16 @@ fn mock_files<F: Files>(
         Err(fault) => return fault_ending(fault),
     };
     Ok(Ending::Played(mock(alloc, &bundle, replies)?))
+}
+
+// Loads the files of a setup.
+fn check_files<F: Files>(alloc: Global, files: &mut F, setup: &str) -> Result<Ending, AllocError>
+    ensures { IfOk result (Checks (F.files files.old) (F.files files.new) setup.now) }
+{
+    match load(alloc, setup, files) {
+        Ok(_) => Ok(Ending::Ready),
+        Err(fault) => fault_ending(fault),
+    }
 }
 
 // What it comes to that files give nothing.

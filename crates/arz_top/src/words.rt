@@ -1,6 +1,6 @@
 // The words of the command line.
 ghost use Rattle.std.specs.Prelude.{◌≡◌, IfOk, map, string_bytes};
-ghost use Rattle.arz_top.specs.Words.{taken, is_path, mock_row};
+ghost use Rattle.arz_top.specs.Words.{taken, is_path, mock_row, check_row};
 
 use arz_json::Text;
 use std::alloc::AllocError;
@@ -10,6 +10,8 @@ use std::alloc::AllocError;
 pub enum Command {
     /// Runs the workflow of a setup over given replies: the paths of the setup and of the replies.
     Mock(Text, Text),
+    /// Loads the files of a setup: its path.
+    Check(Text),
     /// Nothing that is known: the words aren't taken.
     Unknown,
 }
@@ -23,6 +25,8 @@ pub(crate) fn read_words(words: &[String]) -> Result<Command, AllocError>
         [verb, rest @ ..] => {
             if verb.as_str() == "mock" {
                 read_mock(rest)
+            } else if verb.as_str() == "check" {
+                read_check(rest)
             } else {
                 Ok(Command::Unknown)
             }
@@ -40,6 +44,20 @@ fn read_mock(words: &[String]) -> Result<Command, AllocError>
                     Text::from_std(setup.clone()?),
                     Text::from_std(replies.clone()?),
                 ));
+            }
+            Ok(Command::Unknown)
+        }
+        _ => Ok(Command::Unknown),
+    }
+}
+
+fn read_check(words: &[String]) -> Result<Command, AllocError>
+    ensures { IfOk result (λ command. command ≡ check_row (map string_bytes words.now)) }
+{
+    match words {
+        [setup] => {
+            if is_path_text(setup.as_str()) {
+                return Ok(Command::Check(Text::from_std(setup.clone()?)));
             }
             Ok(Command::Unknown)
         }
