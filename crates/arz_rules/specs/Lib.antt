@@ -1,0 +1,11 @@
+pub mod Place
+pub mod Pointer
+pub mod Texts
+pub mod Shapes
+pub mod Kinds
+pub mod Misses
+pub mod Sites
+pub mod Look
+pub mod Sets
+pub mod Phases
+pub mod Laws
