@@ -1,5 +1,5 @@
 -- Places as JSON Pointers (RFC 6901).
-use Rattle.std.specs.Prelude.{ℕ, ◌==◌, List, [], ◌∷◌, ◌++◌, codes, if◌then◌else◌}
+use Rattle.std.specs.Prelude.{ℕ, ◌==◌, List, [], ◌∷◌, ◌++◌, codes, encode_utf8, if◌then◌else◌}
 use Rattle.std.specs.Fmt.{decimal}
 use Rattle.arz_json.specs.declared.place.Token.{Token}
 use Rattle.arz_json.specs.declared.place.Token.TheVariants.{Name, Index}
@@ -20,3 +20,8 @@ token_text (Index i) = codes "/" ++ decimal i
 abbrev pub pointer_text : List Token → List ℕ
 pointer_text [] = []
 pointer_text (t ∷ ts) = token_text t ++ pointer_text ts
+
+-- ---- for private clauses: a character at a time
+
+abbrev pub escaped_char : ℕ → List ℕ
+escaped_char c = if c == 126 then codes "~0" else (if c == 47 then codes "~1" else encode_utf8 c)

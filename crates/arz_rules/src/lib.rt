@@ -27,5 +27,6 @@ pub use sets::{Among, Distinct, TextSet, texts_at};
 pub use shape::first_miss;
 pub use sites::{Check, Way, first_at, first_at_each};
 pub use texts::{
-    BadName, BadNames, is_field_value, is_name, is_pointer, is_prefixed, is_token, is_version,
+    BadName, BadNames, BadVersion, is_field_value, is_name, is_pointer, is_prefixed, is_token,
+    is_version,
 };

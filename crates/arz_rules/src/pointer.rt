@@ -1,7 +1,7 @@
 // Places as JSON Pointers.
 ghost use Rattle.std.specs.Prelude.{◌≡◌, ◌++◌, OnOk, IfOk, string_bytes};
 ghost use Rattle.std.specs.Fmt.{decimal};
-ghost use Rattle.arz_rules.specs.Pointer.{escaped, escaped_byte, token_text, pointer_text as text_of};
+ghost use Rattle.arz_rules.specs.Pointer.{escaped, escaped_char, token_text, pointer_text as text_of};
 
 use arz_json::{Place, Text, Token};
 use std::alloc::{AllocError, Global};
@@ -45,11 +45,17 @@ fn push_escaped(out: &mut String, name: &str) -> Result<(), AllocError>
     ensures { OnOk result (string_bytes out.new ≡ string_bytes out.old ++ escaped name.now) }
 {
     for c in name.chars() {
-        match c {
-            '~' => out.push_str("~0")?,
-            '/' => out.push_str("~1")?,
-            other => out.push(other)?,
-        }
+        push_char(out, c)?;
     }
     Ok(())
+}
+
+fn push_char(out: &mut String, c: char) -> Result<(), AllocError>
+    ensures { OnOk result (string_bytes out.new ≡ string_bytes out.old ++ escaped_char c) }
+{
+    match c {
+        '~' => out.push_str("~0"),
+        '/' => out.push_str("~1"),
+        other => out.push(other),
+    }
 }

@@ -1,7 +1,7 @@
 // Texts of a stated form.
 ghost use Rattle.std.specs.Prelude.{◌≡◌, IfOk, false};
 ghost use Rattle.std.specs.List.{list_all};
-ghost use Rattle.arz_rules.specs.Texts.{is_digit as a_digit, is_name_byte as a_name_byte, is_name as a_name, is_prefixed as a_prefixed, is_version as a_version, is_token_byte as a_token_byte, is_token as a_token, is_field_byte as a_field_byte, is_field_value as a_field_value, are_escapes, is_pointer as a_pointer};
+ghost use Rattle.arz_rules.specs.Texts.{is_digit as a_digit, is_filled, is_name_byte as a_name_byte, is_name as a_name, is_prefixed as a_prefixed, is_version as a_version, is_token_byte as a_token_byte, is_token as a_token, is_field_byte as a_field_byte, is_field_value as a_field_value, are_escapes, is_pointer as a_pointer};
 ghost use Rattle.arz_rules.specs.Place.{least, tokens_in};
 ghost use Rattle.arz_rules.specs.Sets.{bad_names_in};
 
@@ -45,9 +45,15 @@ pub fn is_version(prefix: &str, text: &str) -> bool
     ensures { result ≡ a_version prefix.now text.now }
 {
     match text.strip_prefix(prefix) {
-        Some(rest) => !rest.is_empty() && are_digits(rest.as_bytes()),
+        Some(rest) => is_number(rest),
         None => false,
     }
+}
+
+fn is_number(text: &str) -> bool
+    ensures { result ≡ is_filled a_digit text.now }
+{
+    !text.is_empty() && are_digits(text.as_bytes())
 }
 
 fn are_digits(bytes: &[u8]) -> bool
@@ -109,6 +115,27 @@ fn has_escapes(bytes: &[u8]) -> bool
         after_tilde = !after_tilde && *byte == b'~';
     }
     !after_tilde
+}
+
+/// The check that a text is a version of the line that a prefix begins.
+#[derive(Clone, Copy, Debug)]
+pub struct BadVersion {
+    /// The prefix, as `1.0.`.
+    pub prefix: &'static str,
+}
+
+impl Check for BadVersion {
+    ghost use Rattle.arz_rules.specs.Texts.{is_version};
+    ghost use Rattle.arz_rules.specs.Sets.{bad_text};
+
+    ghost places = { λ c. bad_text (is_version c.prefix.now) };
+
+    fn first(&self, alloc: Global, tree: &Json) -> Result<Option<Place>, AllocError> {
+        Ok(match tree.as_text() {
+            Some(text) => root_unless(alloc, is_version(self.prefix, text)),
+            None => None,
+        })
+    }
 }
 
 /// The check that a text is a name.
