@@ -1,7 +1,7 @@
 -- What a tree in form holds is in form.
 use Rattle.std.proofs.Common.{◌≡◌, ◌&&◌, ℕ, zero, suc, ◌<◌, List, [], ◌∷◌, map, length, get_or, Bool, true, false, Option, Some, None, option_and_then, cond, refl, sym, ap, ◌∙◌, arith}
 use Rattle.std.specs.Str.{bytes_eq}
-use Rattle.arz_json.specs.Tree.{has_form, all_true, are_ordered, form_step}
+use Rattle.arz_json.specs.Tree.{has_form, all_true, form_step}
 use Rattle.arz_json.specs.Look.{list_step, object_step, list_in, object_in, member_in}
 use Rattle.arz_json.specs.Pointer.{member_named}
 use Rattle.arz_json.specs.declared.tree.Json.{Json, out-Json}

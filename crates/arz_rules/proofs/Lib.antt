@@ -6,3 +6,4 @@ pub mod Steps
 pub mod Prefixes
 pub mod Escapes
 pub mod InForm
+pub mod TextsNoted

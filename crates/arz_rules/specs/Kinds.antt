@@ -1,7 +1,6 @@
 -- What each kind asks of a tree, row by row.
-use Rattle.std.specs.Prelude.{List, [], ◌∷◌, codes}
+use Rattle.std.specs.Prelude.{[], ◌∷◌, codes}
 use Rattle.arz_rules.specs.declared.kinds.Kind.{Kind}
-use Rattle.arz_rules.specs.declared.kinds.Kind.TheVariants as Kind
 use Rattle.arz_rules.specs.Shapes as shape
 use Rattle.arz_rules.specs.Shapes.{Shape, must, may, choice, open_object, closed_object, map_of, tokens_of, paths_of, list_of, filled_list_of}
 

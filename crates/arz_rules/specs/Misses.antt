@@ -1,5 +1,5 @@
 -- The places at which a tree misses a kind.
-use Rattle.std.specs.Prelude.{ℕ, suc, ℤ, pos, negsuc, List, [], ◌∷◌, ◌++◌, map, ◌&&◌, ◌||◌, Bool, true, false, nat_le, if◌then◌else◌}
+use Rattle.std.specs.Prelude.{ℕ, suc, pos, List, [], ◌∷◌, ◌++◌, map, ◌&&◌, ◌||◌, Bool, true, false, nat_le, if◌then◌else◌}
 use Rattle.std.specs.Str.{bytes_eq}
 use Rattle.arz_json.specs.declared.tree.Json.{Json, out-Json}
 use Rattle.arz_json.specs.declared.tree.Json.TheOpen.{Json-F}
@@ -9,7 +9,6 @@ use Rattle.arz_json.specs.declared.tree.Member.{Member}
 use Rattle.arz_json.specs.declared.place.Token.{Token}
 use Rattle.arz_json.specs.declared.place.Token.TheVariants.{Name, Index}
 use Rattle.arz_rules.specs.declared.kinds.Kind.{Kind}
-use Rattle.arz_rules.specs.declared.kinds.Kind.TheVariants as Kind
 use Rattle.arz_rules.specs.declared.forms.Need.{Need}
 use Rattle.arz_rules.specs.declared.forms.Need.TheVariants.{Must, May}
 use Rattle.arz_rules.specs.declared.forms.Size.{Size}

@@ -1,5 +1,5 @@
 -- The first failure of rules, and of phases: each has a label, its rules, and what comes after it.
-use Rattle.std.specs.Prelude.{ℕ, List, [], ◌∷◌, Option, Some, None, Result, Ok, Err}
+use Rattle.std.specs.Prelude.{ℕ, List, [], ◌∷◌, Option, Some, None, Result, Err}
 use Rattle.arz_json.specs.declared.tree.Refusal.{Refusal}
 use Rattle.arz_json.specs.declared.place.Token.{Token}
 use Rattle.arz_rules.specs.declared.phases.RuleFault.{RuleFault}

@@ -1,5 +1,5 @@
 -- What a tree can be asked to be.
-use Rattle.std.specs.Prelude.{ℕ, List, [], ◌∷◌, map}
+use Rattle.std.specs.Prelude.{ℕ, List, [], map}
 use denote.Ref.{Bor}
 use Rattle.arz_rules.specs.declared.kinds.Kind.{Kind}
 use Rattle.arz_rules.specs.declared.kinds.Kind.TheVariants.{Anything, Nothing}
@@ -12,7 +12,6 @@ use Rattle.arz_rules.specs.declared.forms.Others.TheVariants.{Are, Tokens, Paths
 use Rattle.arz_rules.specs.declared.forms.Field.{Field}
 use Rattle.arz_rules.specs.declared.forms.Choice.{Choice}
 use Rattle.arz_rules.specs.declared.forms.Form.{Form}
-use Rattle.arz_rules.specs.declared.forms.Form.TheVariants as Form
 
 -- a member's name, whether it must be there, and its kind
 abbrev pub Row : Type 0

@@ -7,7 +7,6 @@ use Rattle.arz_json.specs.Look.{text_in, list_in, object_in, member_in}
 use Rattle.arz_json.specs.declared.place.Token.{Token}
 use Rattle.arz_json.specs.declared.place.Token.TheVariants.{Name, Index}
 use Rattle.arz_rules.specs.declared.sites.Way.{Way}
-use Rattle.arz_rules.specs.declared.sites.Way.TheVariants as Way
 use Rattle.arz_rules.specs.Place.{under}
 
 -- one step to a site: the member with a name, each item of a list, or each member's value

@@ -25,7 +25,7 @@ pub fn first_miss(alloc: Global, tree: &Json, kind: Kind) -> Result<Option<Place
 
 #[cycle(shape)]
 fn first_miss_of(alloc: Global, tree: &Json, form: Form) -> Result<Option<Place>, AllocError>
-    ensures { IfOk result (λ p. tokens_in p ≡ least (shape_misses (seen_form form.entry) (level_of tree.now))) }
+    ensures { IfOk result (λ p. tokens_in p ≡ least (shape_misses (seen_form form) (level_of tree.now))) }
 {
     match form {
         Form::Anything | Form::Chosen(_, _) => Ok(None),

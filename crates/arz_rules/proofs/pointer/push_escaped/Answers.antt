@@ -1,6 +1,6 @@
 use Rattle.std.proofs.Common.{◌++◌, string_bytes, ap, ◌∙◌, sym, rules}
 use Rattle.std.specs.Str.Iter.{chars_rest}
-use Rattle.arz_rules.specs.Pointer.{escaped, escaped_char}
+use Rattle.arz_rules.specs.Pointer.{escaped}
 use Rattle.arz_rules.proofs.Escapes.{char_step}
 use Rattle.arz_rules.proofs.pointer.push_escaped.Goals as goal
 

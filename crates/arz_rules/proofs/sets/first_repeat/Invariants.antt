@@ -1,0 +1,10 @@
+use Rattle.std.proofs.Common.{◌≡◌, ℕ, List, take, drop, []}
+use Rattle.arz_rules.specs.Place.{least, lesser, tokens_in}
+use Rattle.arz_rules.specs.Sets.{repeats_after, some_has, has}
+use Rattle.arz_rules.proofs.sets.first_repeat.Given as goal
+
+abbrev pub invariant-loop-i : goal.invariant-loop-i
+invariant-loop-i l = record {
+  so_far : least (repeats_after l.name [] 0 l.items) ≡ lesser (tokens_in l.best) (least (repeats_after l.name (take l.i l.items) l.i (drop l.i l.items)));
+  seen : (q : List ℕ) → has l.seen q ≡ some_has l.name (take l.i l.items) q;
+}
