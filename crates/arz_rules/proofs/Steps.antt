@@ -12,7 +12,7 @@ use Rattle.arz_rules.specs.declared.sites.Way.{Way}
 use Rattle.arz_rules.specs.Place.{least, lesser, under, here_unless}
 use Rattle.arz_rules.specs.Shapes.{Row}
 use Rattle.arz_rules.specs.Misses.{misses, named_misses, kind_named, member_misses, item_misses}
-use Rattle.arz_rules.specs.Sites.{Check, seen_site, at, at_each, in_member, in_items, in_members, text_named}
+use Rattle.arz_rules.specs.Sites.{Check, seen_site, at, at_each, in_member, in_items, in_members}
 use Rattle.arz_rules.specs.Sets.{bad_names_in, repeats_after, stands_before}
 use Rattle.arz_rules.proofs.Places.{lesser_grouped, least-append, least-under}
 
@@ -114,19 +114,19 @@ one_place : (b : Bool) (i : ℕ) (name : List ℕ) → least (cond b ((Index i �
 one_place true i name = refl
 one_place false i name = refl
 
-pub repeats_step : (name : List ℕ) (total best next found : Option (List Token)) (js : List Json) (i : ℕ) (j : Json) (b : Bool)
-    → total ≡ lesser best (least (repeats_after name (take i js) i (drop i js)))
-    → i < length js → j ≡ get_or js i j → b ≡ stands_before name (take i js) (text_named name j)
-    → found ≡ cond b (Some (Name name ∷ [])) None → next ≡ lesser best (option_map (λ q. Index i ∷ q) found)
-    → total ≡ lesser next (least (repeats_after name (take (i + 1) js) (i + 1) (drop (i + 1) js)))
-repeats_step name total best next found js i j b inv h is was f n =
+pub repeats_step : (key : Json → Option (List ℕ)) (told : Json → List ℕ) (total best next found : Option (List Token)) (js : List Json) (i : ℕ) (j : Json) (b : Bool)
+    → total ≡ lesser best (least (repeats_after key told (take i js) i (drop i js)))
+    → i < length js → j ≡ get_or js i j → b ≡ stands_before key (take i js) (key j)
+    → found ≡ cond b (Some (Name (told j) ∷ [])) None → next ≡ lesser best (option_map (λ q. Index i ∷ q) found)
+    → total ≡ lesser next (least (repeats_after key told (take (i + 1) js) (i + 1) (drop (i + 1) js)))
+repeats_step key told total best next found js i j b inv h is was f n =
     inv
-    ∙ ap (λ (rest : List Json). lesser best (least (repeats_after name (take i js) i rest))) (rest_of js i j h is)
-    ∙ one_part best (cond (stands_before name (take i js) (text_named name j)) ((Index i ∷ Name name ∷ []) ∷ []) []) _
-    ∙ ap₂ (λ (o : Option (List Token)) (k : ℕ). lesser o (least (repeats_after name (take i js ++ j ∷ []) k (drop (i + 1) js))))
-    (ap (lesser best) (one_place _ i name ∙ ap (λ (c : Bool). option_map (λ q. Index i ∷ q) (cond c (Some (Name name ∷ [])) None)) (sym was) ∙ ap (option_map (λ q. Index i ∷ q)) (sym f)) ∙ sym n)
+    ∙ ap (λ (rest : List Json). lesser best (least (repeats_after key told (take i js) i rest))) (rest_of js i j h is)
+    ∙ one_part best (cond (stands_before key (take i js) (key j)) ((Index i ∷ Name (told j) ∷ []) ∷ []) []) _
+    ∙ ap₂ (λ (o : Option (List Token)) (k : ℕ). lesser o (least (repeats_after key told (take i js ++ j ∷ []) k (drop (i + 1) js))))
+    (ap (lesser best) (one_place _ i (told j) ∙ ap (λ (c : Bool). option_map (λ q. Index i ∷ q) (cond c (Some (Name (told j) ∷ [])) None)) (sym was) ∙ ap (option_map (λ q. Index i ∷ q)) (sym f)) ∙ sym n)
     (sym (add-one i))
-    ∙ ap (λ (e : List Json). lesser next (least (repeats_after name e (i + 1) (drop (i + 1) js)))) (sym (take_more js i j h ∙ ap (λ x. take i js ++ x ∷ []) (sym is)))
+    ∙ ap (λ (e : List Json). lesser next (least (repeats_after key told e (i + 1) (drop (i + 1) js)))) (sym (take_more js i j h ∙ ap (λ x. take i js ++ x ∷ []) (sym is)))
 
 pub in_member_found : (check : Check) (name : List ℕ) (o : Option Json) (k : Json) (found : Option (List Token)) → o ≡ Some k → found ≡ least (check k)
     → option_map (λ q. Name name ∷ q) found ≡ least (in_member check name o)

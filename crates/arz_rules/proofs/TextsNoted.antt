@@ -5,7 +5,7 @@ use Rattle.arz_json.specs.declared.tree.Json.{Json}
 use Rattle.arz_json.specs.declared.tree.Member.{Member}
 use Rattle.arz_json.specs.Look.{text_in}
 use Rattle.arz_rules.specs.declared.sets.TextSet.{TextSet}
-use Rattle.arz_rules.specs.Sites.{all_items, all_members, text_named}
+use Rattle.arz_rules.specs.Sites.{all_items, all_members}
 use Rattle.arz_rules.specs.Sets.{is_among, is_text, has, has_text, some_has, stands_before}
 use Rattle.arz_rules.proofs.Steps.{rest_of}
 
@@ -49,26 +49,27 @@ module _ (f : Json → List Json) (total : Bool) (q : List ℕ) where
 
 -- ---- earlier items
 
-pub seen_before : (seen : TextSet) (name : List ℕ) (earlier : List Json) (o : Option (List ℕ)) → ((q : List ℕ) → has seen q ≡ some_has name earlier q) → has_text seen o ≡ stands_before name earlier o
-seen_before seen name earlier None h = refl
-seen_before seen name earlier (Some q) h = h q
+module _ (key : Json → Option (List ℕ)) where
+  pub seen_before : (seen : TextSet) (earlier : List Json) (o : Option (List ℕ)) → ((q : List ℕ) → has seen q ≡ some_has key earlier q) → has_text seen o ≡ stands_before key earlier o
+  seen_before seen earlier None h = refl
+  seen_before seen earlier (Some q) h = h q
 
-swapped : (a b c : Bool) → (a || (b || c)) ≡ (b || (a || c))
-swapped true true c = refl
-swapped true false c = refl
-swapped false true c = refl
-swapped false false c = refl
+  swapped : (a b c : Bool) → (a || (b || c)) ≡ (b || (a || c))
+  swapped true true c = refl
+  swapped true false c = refl
+  swapped false true c = refl
+  swapped false false c = refl
 
-some_has-one_more : (name : List ℕ) (js : List Json) (j : Json) (s : List ℕ) → some_has name (js ++ j ∷ []) s ≡ (is_text (text_named name j) s || some_has name js s)
-some_has-one_more name [] j s = refl
-some_has-one_more name (k ∷ ks) j s = ap (λ b. is_text (text_named name k) s || b) (some_has-one_more name ks j s) ∙ swapped (is_text (text_named name k) s) (is_text (text_named name j) s) (some_has name ks s)
+  some_has-one_more : (js : List Json) (j : Json) (s : List ℕ) → some_has key (js ++ j ∷ []) s ≡ (is_text (key j) s || some_has key js s)
+  some_has-one_more [] j s = refl
+  some_has-one_more (k ∷ ks) j s = ap (λ b. is_text (key k) s || b) (some_has-one_more ks j s) ∙ swapped (is_text (key k) s) (is_text (key j) s) (some_has key ks s)
 
-pub seen_step : (old new : TextSet) (name : List ℕ) (js : List Json) (i : ℕ) (j : Json) → i < length js → j ≡ get_or js i j
-    → ((q : List ℕ) → has old q ≡ some_has name (take i js) q)
-    → ((q : List ℕ) → has new q ≡ (is_text (text_named name j) q || has old q))
-    → (q : List ℕ) → has new q ≡ some_has name (take (i + 1) js) q
-seen_step old new name js i j h is before now q =
-    now q
-    ∙ ap (λ b. is_text (text_named name j) q || b) (before q)
-    ∙ sym (some_has-one_more name (take i js) j q)
-    ∙ ap (λ (e : List Json). some_has name e q) (sym (take_more js i j h ∙ ap (λ x. take i js ++ x ∷ []) (sym is)))
+  pub seen_step : (old new : TextSet) (js : List Json) (i : ℕ) (j : Json) → i < length js → j ≡ get_or js i j
+      → ((q : List ℕ) → has old q ≡ some_has key (take i js) q)
+      → ((q : List ℕ) → has new q ≡ (is_text (key j) q || has old q))
+      → (q : List ℕ) → has new q ≡ some_has key (take (i + 1) js) q
+  seen_step old new js i j h is before now q =
+      now q
+      ∙ ap (λ b. is_text (key j) q || b) (before q)
+      ∙ sym (some_has-one_more (take i js) j q)
+      ∙ ap (λ (e : List Json). some_has key e q) (sym (take_more js i j h ∙ ap (λ x. take i js ++ x ∷ []) (sym is)))

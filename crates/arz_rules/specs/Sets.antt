@@ -12,7 +12,7 @@ use Rattle.arz_json.specs.declared.place.Token.{Token}
 use Rattle.arz_json.specs.declared.place.Token.TheVariants.{Name, Index}
 use Rattle.arz_rules.specs.declared.sets.TextSet.{TextSet}
 use Rattle.arz_rules.specs.Place.{here_unless, under}
-use Rattle.arz_rules.specs.Sites.{Step, Check, found, text_named, items, members}
+use Rattle.arz_rules.specs.Sites.{Step, Check, found, items, members}
 
 -- whether there is a text, and it is this one
 abbrev pub is_text : Option (List ℕ) → List ℕ → Bool
@@ -35,26 +35,26 @@ abbrev pub has_text : TextSet → Option (List ℕ) → Bool
 has_text texts None = false
 has_text texts (Some q) = has texts q
 
--- ---- what stands a second time in a list, by the text under a name
+-- ---- what stands a second time in a list, by a text that each item may have
 
--- an item has this text under the name
-abbrev pub some_has : List ℕ → List Json → List ℕ → Bool
-some_has name [] s = false
-some_has name (j ∷ js) s = is_text (text_named name j) s || some_has name js s
+-- an item has this text
+abbrev pub some_has : (Json → Option (List ℕ)) → List Json → List ℕ → Bool
+some_has key [] s = false
+some_has key (j ∷ js) s = is_text (key j) s || some_has key js s
 
-abbrev pub stands_before : List ℕ → List Json → Option (List ℕ) → Bool
-stands_before name earlier None = false
-stands_before name earlier (Some s) = some_has name earlier s
+abbrev pub stands_before : (Json → Option (List ℕ)) → List Json → Option (List ℕ) → Bool
+stands_before key earlier None = false
+stands_before key earlier (Some s) = some_has key earlier s
 
-abbrev pub repeats_after : List ℕ → List Json → ℕ → List Json → List (List Token)
-repeats_after name earlier i [] = []
-repeats_after name earlier i (j ∷ js) =
-    (if stands_before name earlier (text_named name j) then (Index i ∷ Name name ∷ []) ∷ [] else [])
-    ++ repeats_after name (earlier ++ j ∷ []) (suc i) js
+abbrev pub repeats_after : (Json → Option (List ℕ)) → (Json → List ℕ) → List Json → ℕ → List Json → List (List Token)
+repeats_after key told earlier i [] = []
+repeats_after key told earlier i (j ∷ js) =
+    (if stands_before key earlier (key j) then (Index i ∷ Name (told j) ∷ []) ∷ [] else [])
+    ++ repeats_after key told (earlier ++ j ∷ []) (suc i) js
 
--- in a list, the texts under the name that an earlier item has too
-abbrev pub repeats : List ℕ → Check
-repeats name j = repeats_after name [] 0 (items j)
+-- the items of a list whose text by `key` an earlier item has too, at the member that `told` names
+abbrev pub repeats : (Json → Option (List ℕ)) → (Json → List ℕ) → Check
+repeats key told j = repeats_after key told [] 0 (items j)
 
 -- ---- checks of a text, and of the names of members
 

@@ -23,7 +23,7 @@ pub use look::{child, text_named};
 pub use phases::{RuleFault, refuse, refuse_if};
 pub use place::{below_index, below_name, lesser, root_place, root_unless};
 pub use pointer::pointer_text;
-pub use sets::{Among, Distinct, TextSet, texts_at};
+pub use sets::{Among, Distinct, Keyed, TextSet, TextUnder, texts_at};
 pub use shape::first_miss;
 pub use sites::{Check, Way, first_at, first_at_each};
 pub use texts::{

@@ -1,12 +1,12 @@
 // Sets of texts, what stands in a list a second time, and references to what is there.
-ghost use Rattle.std.specs.Prelude.{◌≡◌, ◌∷◌, [], ◌||◌, true, false, IfOk, OnOk, ℕ, List, map, Some, None, if◌then◌else◌};
+ghost use Rattle.std.specs.Prelude.{◌≡◌, ◌∷◌, [], ◌||◌, true, false, IfOk, OnOk, ℕ, List, map, option_map, Some, None, if◌then◌else◌};
 ghost use Rattle.std.specs.Str.{bytes_eq};
 ghost use Rattle.std.specs.Option.{option_copied};
 ghost use Rattle.arz_json.specs.Tree.{has_form, all_true};
 ghost use Rattle.arz_json.specs.Look.{text_in};
 ghost use Rattle.arz_json.specs.declared.place.Token.TheVariants.{Name};
 ghost use Rattle.arz_rules.specs.Place.{least, tokens_in};
-ghost use Rattle.arz_rules.specs.Sites.{seen_way, found, all_items, all_members, text_named as text_under};
+ghost use Rattle.arz_rules.specs.Sites.{seen_way, found, all_items, all_members};
 ghost use Rattle.arz_rules.specs.Sets.{has, has_text, is_text, is_among, texts_at as texts_under, repeats_after};
 
 use crate::look::{child, text_named};
@@ -143,48 +143,96 @@ impl<'s, 'a> Check for Among<'s, 'a> {
     }
 }
 
-/// The check that no two items of a list have one text under a name. The place of an item that has the
-/// text of an earlier one is that of its text.
+/// What tells the items of a list apart.
+pub trait Keyed {
+    ghost use Rattle.std.specs.Prelude.{List, ℕ, Option};
+    ghost use Rattle.arz_json.specs.declared.tree.Json.{Json};
+
+    /// The text that no two items have, where an item has one.
+    ghost key_of: { Self → Json → Option (List ℕ) };
+
+    /// The name of the member of an item at which it is told.
+    ghost told_at: { Self → Json → List ℕ };
+
+    /// The item's text, where it has one.
+    fn key<'k>(&'k self, item: &'k Json) -> Option<&'k str>
+        requires { has_form item.now ≡ true }
+        ensures { option_map (λ t. t.now) result ≡ key_of self.now item.now };
+
+    /// The name of the member at which the item is told.
+    fn told(&self, item: &Json) -> &'static str
+        requires { has_form item.now ≡ true }
+        ensures { result.now ≡ told_at self.now item.now };
+}
+
+/// Items are told apart by the text of the member with this name.
 #[derive(Clone, Copy, Debug)]
-pub struct Distinct {
+pub struct TextUnder {
     /// The name.
     pub name: &'static str,
 }
 
-impl Check for Distinct {
+impl Keyed for TextUnder {
+    ghost use Rattle.arz_rules.specs.Sites.{text_named};
+
+    ghost key_of = { λ c. text_named c.name.now };
+
+    ghost told_at = { λ c _. c.name.now };
+
+    fn key<'k>(&'k self, item: &'k Json) -> Option<&'k str> {
+        text_named(item, self.name)
+    }
+
+    fn told(&self, _: &Json) -> &'static str {
+        self.name
+    }
+}
+
+/// The check that the items of a list are told apart. The place of an item that has the text of an
+/// earlier one is that of the member at which it is told.
+#[derive(Drop)]
+pub struct Distinct<'k, K> {
+    /// By what they are told apart.
+    pub keyed: &'k K,
+}
+
+impl<'k, K: Keyed> Check for Distinct<'k, K> {
     ghost use Rattle.arz_rules.specs.Sets.{repeats};
 
-    ghost places = { λ c. repeats c.name.now };
+    ghost places = { λ c. repeats (K.key_of c.keyed.now) (K.told_at c.keyed.now) };
 
     fn first(&self, alloc: Global, tree: &Json) -> Result<Option<Place>, AllocError> {
         match tree.as_list() {
-            Some(items) => first_repeat(alloc, self.name, items),
+            Some(items) => first_repeat(alloc, self.keyed, items),
             None => Ok(None),
         }
     }
 }
 
-fn first_repeat(alloc: Global, name: &str, items: &[Json]) -> Result<Option<Place>, AllocError>
+fn first_repeat<'k, K: Keyed>(
+    alloc: Global,
+    keyed: &'k K,
+    items: &'k [Json],
+) -> Result<Option<Place>, AllocError>
     requires { all_true (map has_form items.now) ≡ true }
-    ensures { IfOk result (λ p. tokens_in p ≡ least (repeats_after name.now [] 0 items.now)) }
+    ensures { IfOk result (λ p. tokens_in p ≡ least (repeats_after (K.key_of keyed.now) (K.told_at keyed.now) [] 0 items.now)) }
 {
     let mut seen = TextSet::new(alloc);
     let mut best = None;
     for (i, item) in items.iter().enumerate() {
-        let is_repeat = put_named(&mut seen, item, name)?;
-        let found = place_if(alloc, is_repeat, name)?;
+        let is_repeat = put_key(&mut seen, keyed.key(item))?;
+        let found = place_if(alloc, is_repeat, keyed.told(item))?;
         best = lesser(best, below_index(i, found)?);
     }
     Ok(best)
 }
 
-// Whether the item's text under the name was there.
-fn put_named<'a>(set: &mut TextSet<'a>, item: &'a Json, name: &str) -> Result<bool, AllocError>
-    requires { has_form item.now ≡ true }
-    ensures was { IfOk result (λ was. was ≡ has_text set.old (text_under name.now item.now)) }
-    ensures now { OnOk result ((q : List ℕ) → has set.new q ≡ is_text (text_under name.now item.now) q || has set.old q) }
+// Whether the text was there.
+fn put_key<'a>(set: &mut TextSet<'a>, key: Option<&'a str>) -> Result<bool, AllocError>
+    ensures was { IfOk result (λ was. was ≡ has_text set.old (option_map (λ t. t.now) key.entry)) }
+    ensures now { OnOk result ((q : List ℕ) → has set.new q ≡ is_text (option_map (λ t. t.now) key.entry) q || has set.old q) }
 {
-    match text_named(item, name) {
+    match key {
         Some(text) => set.put(text),
         None => Ok(false),
     }
