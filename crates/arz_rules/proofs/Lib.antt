@@ -7,3 +7,4 @@ pub mod Prefixes
 pub mod Escapes
 pub mod InForm
 pub mod TextsNoted
+pub mod Choices

@@ -1,8 +1,17 @@
 -- What each kind asks of a tree, row by row.
-use Rattle.std.specs.Prelude.{[], ◌∷◌, codes}
+use Rattle.std.specs.Prelude.{List, [], ◌∷◌, codes}
 use Rattle.arz_rules.specs.declared.kinds.Kind.{Kind}
 use Rattle.arz_rules.specs.Shapes as shape
-use Rattle.arz_rules.specs.Shapes.{Shape, must, may, choice, open_object, closed_object, map_of, tokens_of, paths_of, list_of, filled_list_of}
+use Rattle.arz_rules.specs.Shapes.{Shape, must, may, choice, open_object, closed_object, map_of, tokens_of, paths_of, list_of, filled_list_of, Case}
+
+-- a parameter of an operation is chosen by its place
+abbrev pub by_place : List Case
+by_place =
+    choice (codes "in") Kind.InPath Kind.PathParameter
+    ∷ choice (codes "in") Kind.InQuery Kind.QueryParameter
+    ∷ choice (codes "in") Kind.InHeader Kind.HeaderParameter
+    ∷ choice (codes "in") Kind.InCookie Kind.CookieParameter
+    ∷ []
 
 abbrev pub form_of : Kind → Shape
 -- Kinds that several documents have.
@@ -233,11 +242,11 @@ form_of Kind.Variable = open_object (
     must (codes "default") Kind.Text
     ∷ [])
 form_of Kind.OperationParameters = list_of Kind.OperationParameterUse
-form_of Kind.OperationParameterUse = shape.chosen (choice (codes "$ref") Kind.Anything Kind.LocalUse ∷ []) Kind.OperationParameter
+form_of Kind.OperationParameterUse = shape.chosen (choice (codes "$ref") Kind.Anything Kind.LocalUse ∷ by_place) Kind.OtherParameter
 form_of Kind.LocalUse = open_object (
     must (codes "$ref") Kind.Text
     ∷ [])
-form_of Kind.OperationParameter = shape.chosen (choice (codes "in") Kind.InPath Kind.PathParameter ∷ choice (codes "in") Kind.InQuery Kind.QueryParameter ∷ choice (codes "in") Kind.InHeader Kind.HeaderParameter ∷ choice (codes "in") Kind.InCookie Kind.CookieParameter ∷ []) Kind.OtherParameter
+form_of Kind.OperationParameter = shape.chosen by_place Kind.OtherParameter
 form_of Kind.InPath = shape.words (codes "path" ∷ [])
 form_of Kind.InQuery = shape.words (codes "query" ∷ [])
 form_of Kind.InHeader = shape.words (codes "header" ∷ [])

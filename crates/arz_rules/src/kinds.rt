@@ -435,7 +435,13 @@ const SERVER: [Field; 2] = [
 
 const VARIABLE: [Field; 1] = [Field("default", Need::Must, Kind::Text)];
 
-const OPERATION_PARAMETER_USE: [Choice; 1] = [Choice("$ref", Kind::Anything, Kind::LocalUse)];
+const OPERATION_PARAMETER_USE: [Choice; 5] = [
+    Choice("$ref", Kind::Anything, Kind::LocalUse),
+    Choice("in", Kind::InPath, Kind::PathParameter),
+    Choice("in", Kind::InQuery, Kind::QueryParameter),
+    Choice("in", Kind::InHeader, Kind::HeaderParameter),
+    Choice("in", Kind::InCookie, Kind::CookieParameter),
+];
 
 const LOCAL_USE: [Field; 1] = [Field("$ref", Need::Must, Kind::Text)];
 
@@ -583,10 +589,7 @@ pub fn form_at(kind: Kind) -> Form
         Kind::Variables => Form::Object(&[], Others::Are(Kind::Variable)),
         Kind::Variable => Form::Object(&VARIABLE, OPEN),
         Kind::OperationParameters => Form::List(Size::Any, Kind::OperationParameterUse),
-        Kind::OperationParameterUse => Form::Chosen(
-            &OPERATION_PARAMETER_USE,
-            Kind::OperationParameter,
-        ),
+        Kind::OperationParameterUse => Form::Chosen(&OPERATION_PARAMETER_USE, Kind::OtherParameter),
         Kind::LocalUse => Form::Object(&LOCAL_USE, OPEN),
         Kind::OperationParameter => Form::Chosen(&OPERATION_PARAMETER, Kind::OtherParameter),
         Kind::InPath => Form::Words(&["path"]),
