@@ -1,4 +1,4 @@
-//! The body section of a reply in chunks, read in any pieces.
+//! The bytes of replies (RFC 9112), which come in pieces that nobody chooses.
 #![tactic(auto)]
 
 mod bodies;
@@ -8,14 +8,8 @@ mod frames;
 mod heads;
 pub mod laws;
 mod reader;
-mod replies;
-mod reply_reader;
+mod slices;
+mod standing;
 
-pub use bodies::section_body;
-pub use chunks::{Place, Section, SizeAt, Step, TrailerAt, TrailerEnd};
 pub use fault::{PeerCause, PeerFault};
-pub use frames::frame_of;
-pub use heads::{Head, HeadsRead, head_at, read_heads};
-pub use reader::{ChunkReader, Fed};
-pub use replies::{Frame, Standing, advance};
-pub use reply_reader::Reader;
+pub use reader::{Fed, Reader};
