@@ -8,8 +8,10 @@ mod frames;
 mod heads;
 pub mod laws;
 mod reader;
+mod replies;
 mod slices;
 mod standing;
 
-pub use fault::{PeerCause, PeerFault};
+pub use fault::{PeerCause, PeerFault, ReplyFault};
 pub use reader::{Fed, Reader};
+pub use replies::reply;
