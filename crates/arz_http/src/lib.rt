@@ -1,4 +1,4 @@
-//! The bytes of replies (RFC 9112), which come in pieces that nobody chooses.
+//! The bytes of requests and replies (RFC 9112). Those of a reply come in pieces that nobody chooses.
 #![tactic(auto)]
 
 mod bodies;
@@ -9,9 +9,11 @@ mod heads;
 pub mod laws;
 mod reader;
 mod replies;
+mod requests;
 mod slices;
 mod standing;
 
 pub use fault::{PeerCause, PeerFault, ReplyFault};
 pub use reader::{Fed, Reader};
 pub use replies::reply;
+pub use requests::write_request;

@@ -1,0 +1,25 @@
+-- The bytes of a request (RFC 9112, 2.1 and 3).
+use Rattle.std.specs.Prelude.{ℕ, List, [], ◌∷◌, ◌++◌, codes, Option, Some, None}
+use Rattle.std.specs.List.{flat_map}
+use Rattle.arz_world.specs.declared.Header.{Header}
+use Rattle.arz_world.specs.declared.Request.{Request}
+
+-- CR LF
+abbrev pub line_end : List ℕ
+line_end = 13 ∷ 10 ∷ []
+
+-- METHOD TARGET HTTP/1.1 (RFC 9112, 3)
+abbrev pub request_line : Request → List ℕ
+request_line q = q.method ++ codes " " ++ q.target ++ codes " HTTP/1.1" ++ line_end
+
+-- NAME: VALUE (RFC 9112, 5)
+abbrev pub header_line : Header → List ℕ
+header_line h = h.name ++ codes ": " ++ h.value ++ line_end
+
+abbrev pub body_of : Option (List ℕ) → List ℕ
+body_of None = []
+body_of (Some body) = body
+
+-- the request line, the header lines in order, the empty line and the body
+abbrev pub request_bytes : Request → List ℕ
+request_bytes q = request_line q ++ flat_map header_line q.headers ++ line_end ++ body_of q.body
