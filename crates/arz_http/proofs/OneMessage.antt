@@ -123,7 +123,7 @@ close_message o closed bytes start h e =
 -- the bytes end too early
 pub stands_cut : (o : Bool) (bytes : List ℕ) (s : Standing) → Stands o bytes s → ((start : ℕ) → s ≡ ToClose start → ⊥) → ((until : ℕ) → s ≡ Whole until → ⊥) → ((fault : PeerFault) → s ≡ Faulted fault → ⊥)
     → IsOpenReply o bytes × IsNotClosed o bytes
-stands_cut o bytes (Head from interim) h a b d = (h.1, h.3)
+stands_cut o bytes (Head from interim followed) h a b d = (h.1, h.3)
 stands_cut o bytes (Counted until) h a b d = (h.1, h.3)
 stands_cut o bytes (Chunks start s) h a b d = (h.1, h.3)
 stands_cut o bytes (ToClose start) h a b d = absurd (a start refl)

@@ -5,6 +5,7 @@ mod bodies;
 mod chunks;
 mod fault;
 mod frames;
+mod head_lines;
 mod heads;
 pub mod laws;
 mod reader;
