@@ -1,21 +1,20 @@
 -- What stands in a file of the form, found by the look-ups of raw documents.
 use Rattle.std.proofs.Common.{◌≡◌, ℕ, zero, suc, ◌<◌, ◌≤◌, Bool, true, false, ◌&&◌, ◌||◌, List, [], ◌∷◌, length, get_or, cond, Option, Some, None, codes, refl, ap, subst, sym, ◌∙◌, arith}
-use Rattle.std.specs.Prelude.{ℤ, pos, negsuc, nat_le, nat_lt, not, find, option_and_then, unwrap_or, slice_get}
+use Rattle.std.specs.Prelude.{nat_le, nat_lt, not, find, option_and_then, unwrap_or, slice_get}
 use Rattle.std.specs.Option.{is_some}
 use Rattle.std.specs.List.{list_all}
 use Rattle.std.specs.Str.{bytes_eq}
 use Rattle.std.proofs.lemmas.Bool.{leb-true, ltb-true}
 use Rattle.std.proofs.lemmas.Slice.Eq.{bytes_eq-Decides}
-use Rattle.arz_json.specs.Look.{int_in, list_in, object_in, member_in}
+use Rattle.arz_json.specs.Look.{list_in, object_in, member_in}
 use Rattle.arz_json.specs.Pointer.{member_named}
-use Rattle.arz_json.specs.Tree.{has_opaque}
 use Rattle.arz_json.specs.declared.tree.Json.{Json}
 use Rattle.arz_json.specs.declared.tree.Member.{Member}
 use Rattle.arz_flow.specs.Documents.{text_at, items_at, workflow_named, steps_in}
 use Rattle.arz_flow.specs.Valid.{steps_limit}
-use Rattle.arz_bundle.specs.Forms.{description_members, is_description, workflow_members, is_workflow, are_steps, is_step, reply_members, has_one_body, is_reply, are_replies}
+use Rattle.arz_bundle.specs.Forms.{description_members, is_description, workflow_members, is_workflow, are_steps, is_step}
 use Rattle.arz_bundle.specs.FormNames.{have_distinct_names}
-use Rattle.arz_bundle.specs.FormWords.{Row, passes, sole, is_in, has_needed, is_object_of, is_object_with, is_list_of_one, is_final}
+use Rattle.arz_bundle.specs.FormWords.{Row, passes, sole, is_in, has_needed, is_object_of, is_object_with, is_list_of_one}
 
 pub left : (a b : Bool) → (a && b) ≡ true → a ≡ true
 left true b p = refl
@@ -141,30 +140,3 @@ pub steps-named : (d : Json) (h : HasSteps d) (id : List ℕ) → text_at (codes
 steps-named d h id e =
     let same : bytes_eq (text_at (codes "workflowId") h.workflow) id ≡ true = (bytes_eq-Decides (text_at (codes "workflowId") h.workflow) id).1 e in
     rw (h.workflows_are, same) h.steps_are
-
--- ---- replies
-
-status-of : (z : ℤ) → is_final z ≡ true → (n : ℕ) × (z ≡ pos n) × (200 ≤ n) × (n ≤ 599)
-status-of (pos n) p = (n, refl, leb-true 200 n (left (nat_le 200 n) (nat_le n 599) p), leb-true n 599 (right (nat_le 200 n) (nat_le n 599) p))
-status-of (negsuc n) p = absurd (cc)
-
--- the status of a reply is an integer from 200 to 599
-pub reply-status : (reply : Json) → is_reply reply ≡ true → (n : ℕ) × (option_and_then int_in (member_in (codes "status") reply) ≡ Some (pos n)) × (200 ≤ n) × (n ≤ 599)
-reply-status reply p =
-    let value = row-member reply_members reply 2 _ (left (is_object_of reply_members reply) (has_one_body reply) p) refl refl in
-    let z = passing is_final (int_in value.0) value.2 in
-    let n = status-of z.0 z.2 in
-    (n.0, ap (option_and_then int_in) value.1 ∙ z.1 ∙ ap (λ (i : ℤ). Some i) n.1, n.2, n.3)
-
-not-true : (b : Bool) → not b ≡ true → b ≡ false
-not-true true p = absurd (cc)
-not-true false p = refl
-
--- no Opaque is in the body of a reply
-pub body-plain : (reply body : Json) → is_reply reply ≡ true → member_in (codes "body") reply ≡ Some body → has_opaque body ≡ false
-body-plain reply body p e =
-    not-true (has_opaque body) (taken reply_members reply (codes "body") body (left (is_object_of reply_members reply) (has_one_body reply) p) e)
-
--- replies are the items of a list
-pub replies-items : (j : Json) → are_replies j ≡ true → (replies : List Json) × (list_in j ≡ Some replies) × (list_all is_reply replies ≡ true)
-replies-items j p = passing (list_all is_reply) (list_in j) p

@@ -1,18 +1,36 @@
--- The tree of a file, or why there is none.
-use Rattle.std.specs.Prelude.{◌≡◌, ℕ, List}
+-- For private clauses: the tree of a file, or why there is none, and what a look at its rules answers.
+use Rattle.std.specs.Prelude.{◌≡◌, ℕ, List, [], Some, None}
 use Rattle.std.specs.declared.result.Result.{Result}
 use Rattle.std.specs.declared.result.Result.TheVariants.{Ok, Err}
 use Rattle.arz_json.specs.declared.Json.{Json}
 use Rattle.arz_world.specs.Outside.{FilesView, ReadsAs, Rose}
+use Rattle.arz_rules.specs.Phases.{Rule, first_failure, refusal}
+use Rattle.arz_rules.specs.declared.phases.RuleFault.{RuleFault}
+use Rattle.arz_rules.specs.declared.phases.RuleFault.TheVariants as rule
 use Rattle.arz_bundle.specs.declared.fault.LoadFault.{LoadFault}
 use Rattle.arz_bundle.specs.declared.fault.LoadFault.TheVariants.{File, Refused, Memory}
-use Rattle.arz_bundle.specs.Loading.{file_limit, IsFile, not_built}
+use Rattle.arz_bundle.specs.Loading.{file_limit, IsFile, NoFile, told}
 
 -- before, now: what the files show before a read and after it
 module _ (before now : FilesView) (path label : List ℕ) where
   abbrev pub HasTree : Result Json LoadFault → Type 0
   HasTree (Ok tree) = (bytes : List ℕ) × ReadsAs (before.told path) file_limit bytes × IsFile bytes tree
   HasTree (Err (File p)) = Rose (before.faults path) (now.faults path) × (p ≡ path)
-  HasTree (Err (Refused refusal)) =
-      (bytes : List ℕ) × ReadsAs (before.told path) file_limit bytes × ((tree : Json) → IsFile bytes tree → ⊥) × (refusal ≡ not_built label)
+  HasTree (Err (Refused r)) = (bytes : List ℕ) × ReadsAs (before.told path) file_limit bytes × NoFile label bytes r
   HasTree (Err Memory) = Unit {0}
+
+-- no rule of these fails; or the first that does, as it is told; or memory ran out
+abbrev pub Checks : (label : List ℕ) → List Rule → Result Unit RuleFault → Type 0
+Checks label rules (Ok u) = first_failure rules ≡ None
+Checks label rules (Err (rule.Refused r)) = told label rules ≡ Some r
+Checks label rules (Err rule.Memory) = Unit {0}
+
+abbrev pub load_fault : RuleFault → LoadFault
+load_fault (rule.Refused r) = Refused r
+load_fault rule.Memory = Memory
+
+-- this rule is told of the whole document, or memory ran out
+abbrev pub FailsAt : (label : List ℕ) → ℕ → LoadFault → Type 0
+FailsAt label n (File path) = ⊥
+FailsAt label n (Refused r) = r ≡ refusal label (n, [])
+FailsAt label n Memory = Unit {0}

@@ -85,17 +85,6 @@ is_final (negsuc n) = false
 abbrev pub is_status : Json → Bool
 is_status j = passes is_final (int_in j)
 
--- how many requests may be sent, where an integer says so: 0 to 10,000
-abbrev pub attempts_in : ℤ → Option ℕ
-attempts_in (pos n) = if nat_le n 10000 then Some n else None
-attempts_in (negsuc n) = None
-
-abbrev pub attempts_of : Json → Option ℕ
-attempts_of j = option_and_then attempts_in (int_in j)
-
-abbrev pub are_attempts : Json → Bool
-are_attempts j = is_some (attempts_of j)
-
 -- a text of a reply, of any length
 abbrev pub is_body_text : Json → Bool
 is_body_text j = is_some (text_in j)

@@ -1,5 +1,4 @@
--- The form of the files of a run, file by file: a setup, a description (Arazzo 1.0.1, 4.6), a source
--- document (OpenAPI 3.1.1, 4.8) and a list of replies.
+-- The form that is built of a description (Arazzo 1.0.1, 4.6) and of a source document (OpenAPI 3.1.1, 4.8).
 use Rattle.std.specs.Prelude.{◌==◌, ◌&&◌, List, [], ◌∷◌, length, Bool, codes, not, nat_eq, nat_lt, nat_le, count_by}
 use Rattle.std.specs.Option.{is_some}
 use Rattle.std.specs.List.{list_all, starts_with}
@@ -13,19 +12,7 @@ use Rattle.arz_flow.specs.Valid.{steps_limit}
 use Rattle.arz_bundle.specs.FormNames.{are_named, have_distinct_names}
 use Rattle.arz_bundle.specs.FormTexts.{is_short}
 use Rattle.arz_bundle.specs.FormValues.{is_value, is_output}
-use Rattle.arz_bundle.specs.FormWords.{passes, Row, needed, optional, is_object_of, is_object_with, is_list_of, is_list_of_one, is_text, is_any_text, is_filled_text, is_name, is_info, has_no_opaque, are_inputs, are_attempts, is_status, is_body_text, is_header, is_path_byte, is_server_url, is_openapi_version, is_operation_id}
-
--- ---- setup
-
-abbrev pub setup_members : List Row
-setup_members =
-    needed (codes "arazzo") is_filled_text
-    ∷ optional (codes "inputs") are_inputs
-    ∷ optional (codes "maxAttempts") are_attempts
-    ∷ []
-
-abbrev pub is_setup : Json → Bool
-is_setup = is_object_of setup_members
+use Rattle.arz_bundle.specs.FormWords.{passes, Row, needed, optional, is_object_of, is_object_with, is_list_of, is_list_of_one, is_text, is_any_text, is_filled_text, is_name, is_info, has_no_opaque, are_inputs, is_status, is_body_text, is_header, is_path_byte, is_server_url, is_openapi_version, is_operation_id}
 
 -- ---- description
 
@@ -95,26 +82,6 @@ description_members =
 
 abbrev pub is_description : Json → Bool
 is_description = is_object_of description_members
-
--- ---- replies
-
-abbrev pub reply_members : List Row
-reply_members =
-    optional (codes "body") has_no_opaque
-    ∷ optional (codes "headers") (is_object_with is_header)
-    ∷ needed (codes "status") is_status
-    ∷ optional (codes "text") is_body_text
-    ∷ []
-
--- not both a `body` and a `text`
-abbrev pub has_one_body : Json → Bool
-has_one_body j = not (is_some (member_in (codes "body") j) && is_some (member_in (codes "text") j))
-
-abbrev pub is_reply : Json → Bool
-is_reply j = is_object_of reply_members j && has_one_body j
-
-abbrev pub are_replies : Json → Bool
-are_replies = is_list_of is_reply
 
 -- ---- source document
 

@@ -1,3 +1,4 @@
+pub mod FileRules
 pub mod FileTree
 pub mod FormNames
 pub mod FormTexts
@@ -7,4 +8,5 @@ pub mod Forms
 pub mod Loading
 pub mod Printable
 pub mod Replies
+pub mod Setup
 pub mod Standing

@@ -3,6 +3,7 @@ ghost use Rattle.std.specs.Prelude.{◌≡◌};
 ghost use Rattle.arz_bundle.specs.declared.fault.LoadFault.TheVariants.{Memory};
 
 use arz_json::{Refusal, Text};
+use arz_rules::RuleFault;
 use std::alloc::{AllocError, AllocFailed};
 use thiserror::Error;
 
@@ -33,5 +34,18 @@ impl<T: Drop> From<AllocFailed<T>> for LoadFault {
 
     fn from(_: AllocFailed<T>) -> Self {
         LoadFault::Memory
+    }
+}
+
+impl From<RuleFault> for LoadFault {
+    ghost use Rattle.arz_bundle.specs.FileTree.{load_fault};
+
+    ghost from_gives = { λ f e. e ≡ load_fault f };
+
+    fn from(fault: RuleFault) -> Self {
+        match fault {
+            RuleFault::Refused(refusal) => LoadFault::Refused(refusal),
+            RuleFault::Memory => LoadFault::Memory,
+        }
     }
 }

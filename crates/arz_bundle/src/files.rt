@@ -1,18 +1,20 @@
-// One file of a run: its tree, and what its refusal is.
-ghost use Rattle.std.specs.Prelude.{◌≡◌, ◌≤◌, ℕ, List, IfOk};
+// One file of a run: its tree, or why there is none.
+ghost use Rattle.std.specs.Prelude.{◌≡◌, ◌≤◌, ℕ, List, IfOk, [], Err};
 ghost use Rattle.arz_json.specs.Tree.{IsWithin};
-ghost use Rattle.arz_bundle.specs.Loading.{not_built};
-ghost use Rattle.arz_bundle.specs.FileTree.{HasTree};
+ghost use Rattle.arz_rules.specs.Phases.{refusal};
+ghost use Rattle.arz_bundle.specs.FileTree.{HasTree, load_fault, FailsAt};
 
 use crate::fault::LoadFault;
-use arz_json::{Json, JsonFault, Refusal, Text, read};
+use arz_json::{Json, JsonFault, Text, read};
+use arz_rules::{refuse, root_place};
 use arz_world::{FileFault, Files};
-use std::alloc::{AllocError, Global};
+use std::alloc::Global;
 
 /// The most bytes that a file may have.
-pub const FILE_LIMIT: u64 = 4_194_304;
+const FILE_LIMIT: u64 = 4_194_304;
 
-/// Reads a file, which refusals name by its label, and the tree of its JSON text.
+/// Reads a file, which refusals name by its label, and the tree of its JSON text. A file of more than
+/// 4,194,304 bytes fails rule 1, and one without a JSON text rule 2.
 pub(crate) fn read_tree<F: Files>(
     alloc: Global,
     path: &str,
@@ -31,18 +33,15 @@ pub(crate) fn read_tree<F: Files>(
     };
     match read(alloc, bytes.as_slice(), FILE_LIMIT) {
         Ok(tree) => Ok(tree),
-        Err(JsonFault::TooLarge) | Err(JsonFault::NotJson) => Err(refuse(alloc, label)?),
+        Err(JsonFault::TooLarge) => Err(refuse_file(alloc, 1, label)),
+        Err(JsonFault::NotJson) => Err(refuse_file(alloc, 2, label)),
         Err(JsonFault::Memory) => Err(LoadFault::Memory),
     }
 }
 
-/// The fault of a file that hasn't the form that is built.
-pub(crate) fn refuse(alloc: Global, label: &str) -> Result<LoadFault, AllocError>
-    ensures { IfOk result (λ fault. fault ≡ LoadFault.Refused (not_built label.now)) }
+// A rule of all files, failed by a file as a whole.
+fn refuse_file(alloc: Global, rule: u8, label: &str) -> LoadFault
+    ensures { FailsAt label.now rule result }
 {
-    Ok(LoadFault::Refused(Refusal {
-        rule: 0,
-        label: Text::from_str(alloc, label)?,
-        pointer: Text::from_std(String::new(alloc)),
-    }))
+    LoadFault::from(refuse(alloc, rule, label, &root_place(alloc)))
 }

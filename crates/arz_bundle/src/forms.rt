@@ -4,8 +4,6 @@ mod called;
 mod description;
 mod names;
 mod paths;
-mod replies;
-mod setup;
 mod source;
 mod steps;
 mod texts;
@@ -13,6 +11,4 @@ mod values;
 mod words;
 
 pub(crate) use description::is_description;
-pub(crate) use replies::are_replies;
-pub(crate) use setup::{attempts, is_setup};
 pub(crate) use source::is_source;

@@ -10,28 +10,22 @@ ghost use Rattle.arz_bundle.specs.Printable.{IsItem, IsPrintable};
 ghost use Rattle.arz_bundle.specs.Replies.{status_of, header_of, is_content_type as tells_type, headers_for, body_for, reply_of, HasStatus};
 
 use crate::fault::LoadFault;
-use crate::files::{read_tree, refuse};
-use crate::forms::are_replies;
-use arz_flow::{members_at, text_at};
-use arz_json::{Bytes, CompactFault, Json, Many, Member, Text, compact};
+use crate::files::read_tree;
+use crate::rules::check_replies;
+use arz_json::{Bytes, CompactFault, Json, Many, Member, Text, compact, members_at, text_at};
 use arz_world::{Files, Header, Reply};
 use std::alloc::{AllocError, Global};
 
-/// Reads the replies of the file at a path, which is refused with the label `replies`. Each has a
-/// status of 200 to 599, and header names in ASCII lower case.
+/// Reads the replies of the file at a path, which is judged by its rules and refused with the label
+/// `replies`. Each has a status of 200 to 599, and header names in ASCII lower case.
 pub fn replies<F: Files>(alloc: Global, path: &str, files: &mut F) -> Result<Many<Reply>, LoadFault>
     ensures gives { Gives_replies (F.files files.old) (F.files files.new) path.now result }
     ensures statuses { IfOk result (All HasStatus) }
     ensures told { (F.files files.new).told ≡ (F.files files.old).told }
     ensures counts { (p : List ℕ) → (F.files files.old).faults p ≤ (F.files files.new).faults p }
 {
-    let tree = match read_tree(alloc, path, "replies", files) {
-        Ok(tree) => tree,
-        Err(fault) => return Err(fault),
-    };
-    if !are_replies(&tree) {
-        return Err(refuse(alloc, "replies")?);
-    }
+    let tree = read_tree(alloc, path, "replies", files)?;
+    check_replies(alloc, &tree)?;
     Ok(read_replies(alloc, items_of(&tree))?)
 }
 

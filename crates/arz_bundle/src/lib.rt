@@ -1,4 +1,4 @@
-//! The files of a run: which of them are taken, and the bundle and the replies that they give.
+//! The files of a run: the first rule that one fails, and the bundle and the replies that they give.
 #![tactic(auto)]
 
 mod fault;
@@ -6,8 +6,9 @@ mod files;
 mod forms;
 mod given;
 mod loading;
+mod rules;
+mod setup;
 
 pub use fault::LoadFault;
-pub use files::FILE_LIMIT;
 pub use given::replies;
 pub use loading::load;

@@ -1,5 +1,5 @@
 -- What is printed and answered for what a command comes to.
-use Rattle.std.specs.Prelude.{ℕ, zero, suc, ◌+◌, List, [], ◌∷◌, ◌++◌, length, codes}
+use Rattle.std.specs.Prelude.{ℕ, ◌+◌, ◌==◌, if◌then◌else◌, List, [], ◌∷◌, ◌++◌, length, codes}
 use Rattle.std.specs.List.{flat_map}
 use Rattle.std.specs.Fmt.{decimal}
 use Rattle.std.specs.declared.option.Option.{Option}
@@ -51,10 +51,38 @@ outputs_line (Budget limit) = []
 abbrev pub session_report : Session → List ℕ
 session_report s = ask_lines s.lines ++ line (line_of_end s.end (length s.lines + 1)) ++ outputs_line s.end
 
--- the names of the rules
+-- the names of the rules, by their numbers
 abbrev pub rule_name : ℕ → List ℕ
-rule_name zero = codes "NotBuilt"
-rule_name (suc rule) = []
+rule_name rule =
+    if rule == 0 then codes "NotBuilt" else (
+    if rule == 1 then codes "TooLarge" else (
+    if rule == 2 then codes "NotJson" else (
+    if rule == 3 then codes "Shape" else (
+    if rule == 4 then codes "Version" else (
+    if rule == 5 then codes "BadName" else (
+    if rule == 6 then codes "DuplicateId" else (
+    if rule == 7 then codes "Exclusive" else (
+    if rule == 8 then codes "UnknownReference" else (
+    if rule == 9 then codes "DependencyCycle" else (
+    if rule == 10 then codes "Xpath" else (
+    if rule == 11 then codes "TypeObject" else (
+    if rule == 12 then codes "Fraction" else (
+    if rule == 13 then codes "BadExpression" else (
+    if rule == 14 then codes "BadCondition" else (
+    if rule == 15 then codes "BadPath" else (
+    if rule == 16 then codes "BadPattern" else (
+    if rule == 17 then codes "AmbiguousOperation" else (
+    if rule == 18 then codes "ExternalRef" else (
+    if rule == 19 then codes "RefTooLong" else (
+    if rule == 20 then codes "ServerNotHttp" else (
+    if rule == 21 then codes "MissingPathParameter" else (
+    if rule == 22 then codes "ReservedHeader" else (
+    if rule == 23 then codes "MediaType" else (
+    if rule == 24 then codes "OverLimit" else (
+    if rule == 25 then codes "OverlayTarget" else (
+    if rule == 26 then codes "OverlayMismatch" else (
+    if rule == 27 then codes "MissingInput" else (
+    []))))))))))))))))))))))))))))
 
 -- `refused RULE NAME LABEL#POINTER`
 abbrev pub refusal_line : Refusal → List ℕ

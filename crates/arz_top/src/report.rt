@@ -59,11 +59,39 @@ fn file_line(alloc: Global, path: &str) -> Result<Vec<u8>, AllocError>
     text.as_bytes().to_vec(alloc)
 }
 
+// The names of the rules, by their numbers.
 fn rule_name(rule: u8) -> &'static str
     ensures { result.now ≡ name_of_rule rule }
 {
     match rule {
         0 => "NotBuilt",
+        1 => "TooLarge",
+        2 => "NotJson",
+        3 => "Shape",
+        4 => "Version",
+        5 => "BadName",
+        6 => "DuplicateId",
+        7 => "Exclusive",
+        8 => "UnknownReference",
+        9 => "DependencyCycle",
+        10 => "Xpath",
+        11 => "TypeObject",
+        12 => "Fraction",
+        13 => "BadExpression",
+        14 => "BadCondition",
+        15 => "BadPath",
+        16 => "BadPattern",
+        17 => "AmbiguousOperation",
+        18 => "ExternalRef",
+        19 => "RefTooLong",
+        20 => "ServerNotHttp",
+        21 => "MissingPathParameter",
+        22 => "ReservedHeader",
+        23 => "MediaType",
+        24 => "OverLimit",
+        25 => "OverlayTarget",
+        26 => "OverlayMismatch",
+        27 => "MissingInput",
         _ => "",
     }
 }

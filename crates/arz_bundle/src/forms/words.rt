@@ -2,7 +2,7 @@ ghost use Rattle.std.specs.Prelude.{◌≡◌};
 ghost use Rattle.std.specs.Option.{option_copied, is_some};
 ghost use Rattle.std.specs.List.{list_all};
 ghost use Rattle.arz_json.specs.Look.{member_in};
-ghost use Rattle.arz_bundle.specs.FormWords.{sole, is_any_text as any_text, is_info as info, is_text as text_of, is_filled_text as filled, is_some_of, is_name_byte as name_byte, is_plain_byte as plain_byte, is_name_text as name_text, is_name as a_name};
+ghost use Rattle.arz_bundle.specs.FormWords.{sole, is_any_text as any_text, is_info as info, is_text as text_of, is_some_of, is_name_byte as name_byte, is_plain_byte as plain_byte, is_name_text as name_text, is_name as a_name};
 
 use crate::forms::texts::{has_short_texts, short_text};
 use arz_json::Json;
@@ -21,15 +21,6 @@ pub(crate) fn sole_item(items: &[Json]) -> Option<&Json>
     match items {
         [item] => Some(item),
         _ => None,
-    }
-}
-
-pub(crate) fn is_filled_text(tree: &Json) -> bool
-    ensures { result ≡ filled tree.now }
-{
-    match short_text(tree) {
-        Some(text) => !text.is_empty(),
-        None => false,
     }
 }
 

@@ -1,28 +1,41 @@
-use Rattle.std.proofs.Common.{sym, ◌∙◌, ◌++◌, ap, codes, Err}
+use Rattle.std.proofs.Common.{◌++◌, codes, ap, refl, ◌∙◌, Ok, Err}
+use Rattle.arz_bundle.specs.FileRules.{source_rules}
+use Rattle.arz_bundle.specs.FileTree.{load_fault}
+use Rattle.arz_bundle.specs.Loading.{FromSource, source_path}
+use Rattle.arz_bundle.proofs.Stages.{exit, at-place, had-none, was-refused, went-on, labelled, Makes, source_label}
 use Rattle.arz_bundle.proofs.ValidBundles.{valid-bundle}
-use Rattle.arz_bundle.proofs.Stages.{source-none, source-refused, source-stage, at-place}
 use Rattle.arz_bundle.proofs.loading.from_source.Goals as goal
 
-pub returns-in-Err-clause-loads : goal.returns-in-Err-clause-loads
-returns-in-Err-clause-loads g c =
-    source-none (g.F.Files.files c.args.files.now) (g.F.Files.files c.read_tree.new.files) c.in-Err.fault c.args.setup c.args.description
-    (at-place (g.F.Files.files c.args.files.now) (g.F.Files.files c.read_tree.new.files) _ _ _ _ (Err c.in-Err.fault) c.source_path.ensures (c.as_str.ensures.value ∙ c.in_ok-label.ensures ∙ ap (λ name. codes "source " ++ name) c.source_name.ensures) c.in-Err.ensures.tree)
+pub returns-in_err-source-clause-loads : goal.returns-in_err-source-clause-loads
+returns-in_err-source-clause-loads g c =
+    let before = g.F.Files.files c.args.files.now in
+    let now = g.F.Files.files c.read_tree.new.files in
+    let fault = c.in_err-source.field-0.0 in
+    exit (FromSource before now c.args.setup c.args.description) c.from_residual-in_err-source.result fault c.from_residual-in_err-source.ensures.1
+    (had-none before now (source_path c.args.setup c.args.description) (source_label c.args.description) (source_rules c.args.description) (Makes c.args.setup c.args.description) fault
+    (at-place before now _ _ _ _ (Err fault) c.first_source_path-path.ensures (c.as_str.ensures.value ∙ c.in_ok-label.ensures ∙ ap (λ name. codes "source " ++ name) c.source_name.ensures) c.in_err-source.ensures.tree))
 
-pub returns-then-not-branch-clause-loads : goal.returns-then-not-branch-clause-loads
-returns-then-not-branch-clause-loads g c =
-    source-refused (g.F.Files.files c.args.files.now) (g.F.Files.files c.read_tree.new.files) c.in-Ok.tree c.in_ok-refuse.field-0 c.args.setup c.args.description
-    (rw c.source_path.ensures at c.in-Ok.ensures.tree)
-    (sym c.in_ok-is_source.ensures ∙ c.if-not-branch.true)
-    (rw (c.as_str-then-not-branch.ensures.value, c.in_ok-label.ensures, c.source_name.ensures) at c.in_ok-refuse.ensures)
+pub returns-in_err-check_source-clause-loads : goal.returns-in_err-check_source-clause-loads
+returns-in_err-check_source-clause-loads g c =
+    let before = g.F.Files.files c.args.files.now in
+    let now = g.F.Files.files c.read_tree.new.files in
+    let fault = c.in_err-check_source.field-0.0 in
+    exit (FromSource before now c.args.setup c.args.description) c.from_residual-in_err-check_source.result (load_fault fault) c.from_residual-in_err-check_source.ensures.1
+    (was-refused before now now (source_path c.args.setup c.args.description) (source_label c.args.description) (source_rules c.args.description) (Makes c.args.setup c.args.description) c.in_ok-source.source fault
+    (at-place before now _ _ _ _ (Ok c.in_ok-source.source) c.first_source_path-path.ensures (c.as_str.ensures.value ∙ c.in_ok-label.ensures ∙ ap (λ name. codes "source " ++ name) c.source_name.ensures) c.in_ok-source.ensures.tree)
+    (labelled _ _ (source_rules c.args.description c.in_ok-source.source) (Err fault) (c.as_str-2.ensures.value ∙ c.in_ok-label.ensures ∙ ap (λ name. codes "source " ++ name) c.source_name.ensures) c.in_err-check_source.ensures))
 
 pub returns-clause-loads : goal.returns-clause-loads
 returns-clause-loads g c =
+    let before = g.F.Files.files c.args.files.now in
+    let now = g.F.Files.files c.read_tree.new.files in
+    let source = c.in_ok-source.source in
     rw c.in_ok-make_bundle.ensures
-    (source-stage (g.F.Files.files c.args.files.now) (g.F.Files.files c.read_tree.new.files) c.args.setup c.args.description c.in-Ok.tree
-    (rw c.source_path.ensures at c.in-Ok.ensures.tree)
-    (sym c.in_ok-is_source.ensures ∙ c.if-not-branch.false))
+    (went-on before now now (source_path c.args.setup c.args.description) (source_label c.args.description) (source_rules c.args.description) (Makes c.args.setup c.args.description) source _
+    (at-place before now _ _ _ _ (Ok source) c.first_source_path-path.ensures (c.as_str.ensures.value ∙ c.in_ok-label.ensures ∙ ap (λ name. codes "source " ++ name) c.source_name.ensures) c.in_ok-source.ensures.tree)
+    c.in_ok-check_source.ensures refl)
 
 pub returns-clause-valid : goal.returns-clause-valid
 returns-clause-valid g c =
     rw c.in_ok-make_bundle.ensures
-    (valid-bundle c.args.setup c.args.description c.in-Ok.tree c.requires.description_is c.requires.setup_nests c.requires.description_nests c.in-Ok.ensures.nests)
+    (valid-bundle c.args.setup c.args.description c.in_ok-source.source c.requires.description c.requires.names c.requires.setup_nests c.requires.description_nests c.in_ok-source.ensures.nests)

@@ -1,17 +1,30 @@
-use Rattle.std.proofs.Common.{sym}
-use Rattle.arz_bundle.proofs.Stages.{setup-none, setup-refused, setup-stage}
+use Rattle.std.proofs.Common.{codes}
+use Rattle.arz_bundle.specs.FileRules.{setup_rules}
+use Rattle.arz_bundle.specs.FileTree.{load_fault}
+use Rattle.arz_bundle.specs.Loading.{FromDescription, Loads}
+use Rattle.arz_bundle.proofs.Stages.{exit, had-none, was-refused, went-on, description-earlier}
 use Rattle.arz_bundle.proofs.loading.load.Goals as goal
 
-pub returns-in-Err-clause-loads : goal.returns-in-Err-clause-loads
-returns-in-Err-clause-loads g c = setup-none (g.F.Files.files c.args.files.now) (g.F.Files.files c.read_tree.new.files) c.in-Err.fault c.args.path.now c.in-Err.ensures.tree
+pub returns-in_err-setup-clause-loads : goal.returns-in_err-setup-clause-loads
+returns-in_err-setup-clause-loads g c =
+    let before = g.F.Files.files c.args.files.now in
+    let now = g.F.Files.files c.read_tree.new.files in
+    let fault = c.in_err-setup.field-0.0 in
+    exit (Loads before now c.args.path.now) c.from_residual.result fault c.from_residual.ensures.1
+    (had-none before now c.args.path.now (codes "setup") setup_rules (FromDescription before now) fault c.in_err-setup.ensures.tree)
 
-pub returns-then-not-is_setup-clause-loads : goal.returns-then-not-is_setup-clause-loads
-returns-then-not-is_setup-clause-loads g c =
-    setup-refused (g.F.Files.files c.args.files.now) (g.F.Files.files c.read_tree.new.files) c.in-Ok.tree c.in_ok-refuse.field-0 c.args.path.now
-    c.in-Ok.ensures.tree (sym c.if-not-is_setup.ensures) c.in_ok-refuse.ensures
+pub returns-in_err-check_setup-clause-loads : goal.returns-in_err-check_setup-clause-loads
+returns-in_err-check_setup-clause-loads g c =
+    let before = g.F.Files.files c.args.files.now in
+    let now = g.F.Files.files c.read_tree.new.files in
+    let fault = c.in_err-check_setup.field-0.0 in
+    exit (Loads before now c.args.path.now) c.from_residual-in_err-check_setup.result (load_fault fault) c.from_residual-in_err-check_setup.ensures.1
+    (was-refused before now now c.args.path.now (codes "setup") setup_rules (FromDescription before now) c.in_ok-setup.setup fault c.in_ok-setup.ensures.tree c.in_err-check_setup.ensures)
 
 pub returns-clause-loads : goal.returns-clause-loads
 returns-clause-loads g c =
-    setup-stage (g.F.Files.files c.args.files.now) (g.F.Files.files c.read_tree.new.files) (g.F.Files.files c.from_description.new.files)
-    c.read_tree.ensures.told c.read_tree.ensures.counts c.args.path.now c.in-Ok.tree c.from_description.result
-    c.in-Ok.ensures.tree (sym c.if-not-is_setup.ensures) c.from_description.ensures.loads
+    let before = g.F.Files.files c.args.files.now in
+    let after = g.F.Files.files c.read_tree.new.files in
+    let now = g.F.Files.files c.from_description.new.files in
+    went-on before after now c.args.path.now (codes "setup") setup_rules (FromDescription before now) c.in_ok-setup.setup c.from_description.result c.in_ok-setup.ensures.tree c.in_ok-check_setup.ensures
+    (description-earlier before after now (record { told = c.read_tree.ensures.told; counts = c.read_tree.ensures.counts }) c.in_ok-setup.setup c.from_description.result c.from_description.ensures.loads)
