@@ -1,7 +1,6 @@
 -- Choices among kinds are made once.
 use Rattle.std.proofs.Common.{◌≡◌, true, refl}
 use Rattle.arz_rules.specs.declared.kinds.Kind.{Kind}
-use Rattle.arz_rules.specs.declared.kinds.Kind.TheVariants as Kind
 use Rattle.arz_rules.specs.Kinds.{form_of}
 use Rattle.arz_rules.specs.Laws.{is_chosen_once}
 

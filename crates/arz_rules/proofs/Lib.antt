@@ -8,3 +8,4 @@ pub mod Escapes
 pub mod InForm
 pub mod TextsNoted
 pub mod Choices
+pub mod Solids

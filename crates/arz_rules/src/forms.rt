@@ -4,7 +4,9 @@ use crate::kinds::Kind;
 /// Whether an object must have a member.
 #[derive(Clone, Copy, Debug, PartialEq, Eq)]
 pub enum Need {
+    /// It must be there.
     Must,
+    /// It may be missing.
     May,
 }
 
