@@ -1,4 +1,5 @@
--- What each kind asks of a tree, row by row.
+-- What each kind asks of a tree, row by row. A member that no row names is passed over in an open object
+-- and must not be there in a closed one.
 use Rattle.std.specs.Prelude.{List, [], ◌∷◌, codes}
 use Rattle.arz_rules.specs.declared.kinds.Kind.{Kind}
 use Rattle.arz_rules.specs.Shapes as shape
@@ -29,7 +30,7 @@ form_of Kind.Info = open_object (
     must (codes "title") Kind.Text
     ∷ must (codes "version") Kind.Text
     ∷ [])
--- The setup.
+-- The setup file.
 form_of Kind.Setup = closed_object (
     must (codes "arazzo") Kind.Text
     ∷ may (codes "workflow") Kind.Text
@@ -47,7 +48,7 @@ form_of Kind.SetupOverlay = closed_object (
     ∷ may (codes "source") Kind.Text
     ∷ [])
 form_of Kind.Delay = shape.words (codes "stop" ∷ codes "skip" ∷ [])
--- The replies.
+-- The replies file.
 form_of Kind.Replies = list_of Kind.Reply
 form_of Kind.Reply = shape.chosen (choice (codes "body") Kind.Anything Kind.BodyReply ∷ []) Kind.TextReply
 form_of Kind.BodyReply = closed_object (
@@ -63,7 +64,7 @@ form_of Kind.TextReply = closed_object (
 form_of Kind.Status = shape.between 200 599
 form_of Kind.Headers = tokens_of Kind.FieldValue
 form_of Kind.FieldValue = shape.field_value
--- The description.
+-- The description (Arazzo 1.0.1, section 4.6).
 form_of Kind.Description = open_object (
     must (codes "arazzo") Kind.Text
     ∷ must (codes "info") Kind.Info
@@ -210,7 +211,7 @@ form_of Kind.InputSchemas = map_of Kind.InputSchema
 form_of Kind.ParameterMap = map_of Kind.FlowParameter
 form_of Kind.SuccessActionMap = map_of Kind.SuccessAction
 form_of Kind.FailureActionMap = map_of Kind.FailureAction
--- OpenAPI documents.
+-- OpenAPI documents (OpenAPI 3.1.0, section 4.8).
 form_of Kind.OpenApi = open_object (
     must (codes "openapi") Kind.Text
     ∷ may (codes "paths") Kind.Paths
@@ -289,7 +290,7 @@ form_of Kind.OperationBodyUse = shape.chosen (choice (codes "$ref") Kind.Anythin
 form_of Kind.OperationBody = open_object (
     must (codes "content") Kind.AnyObject
     ∷ [])
--- Overlays.
+-- Overlays (Overlay 1.0.0, section 4.4).
 form_of Kind.Overlay = open_object (
     must (codes "overlay") Kind.Text
     ∷ must (codes "info") Kind.Info

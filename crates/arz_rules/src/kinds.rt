@@ -31,7 +31,7 @@ pub enum Kind {
     TextMap,
     /// `info` (Arazzo 1.0.1, section 4.6.2; Overlay 1.0.0, section 4.4.2).
     Info,
-    // The setup.
+    // The setup file.
     /// The setup.
     Setup,
     /// Its overlays.
@@ -40,7 +40,7 @@ pub enum Kind {
     SetupOverlay,
     /// What is done at a wait.
     Delay,
-    // The replies.
+    // The replies file.
     /// Given replies.
     Replies,
     /// A reply. Beside `body` a `text` must not be there.
@@ -55,7 +55,7 @@ pub enum Kind {
     Headers,
     /// A text without control characters but the tab.
     FieldValue,
-    // The description.
+    // The description (Arazzo 1.0.1, section 4.6).
     /// A description (Arazzo 1.0.1, section 4.6.1).
     Description,
     /// Its sources.
@@ -156,7 +156,7 @@ pub enum Kind {
     SuccessActionMap,
     /// Actions after failure by name.
     FailureActionMap,
-    // OpenAPI documents.
+    // OpenAPI documents (OpenAPI 3.1.0, section 4.8).
     /// An OpenAPI document (OpenAPI 3.1.0, section 4.8.1).
     OpenApi,
     /// Its paths (section 4.8.8).
@@ -211,7 +211,7 @@ pub enum Kind {
     OperationBodyUse,
     /// The body of an operation (section 4.8.13).
     OperationBody,
-    // Overlays.
+    // Overlays (Overlay 1.0.0, section 4.4).
     /// An overlay (Overlay 1.0.0, section 4.4.1).
     Overlay,
     /// Its actions.
