@@ -44,4 +44,4 @@ open_stands o bytes from interim f a h =
     let all : head_window from (drop from bytes) ≡ drop from bytes = take_all (head_limit - from) (drop from bytes) (omega (arith, length-drop from bytes, h.short)) in
     let none : HasNoResponse (head_window from (drop from bytes)) = subst HasNoResponse (sym all) h.none in
     let may : MayBecomeResponse (head_window from (drop from bytes)) = subst MayBecomeResponse (sym all) h.may in
-    (a, open_at bytes from interim a none may h.short o, omega (arith, h.short), not_closed_at bytes from interim a none may h.short o, h.followed_is)
+    (a, open_at bytes from interim a none may h.short o, h.short, not_closed_at bytes from interim a none may h.short o, h.followed_is)
