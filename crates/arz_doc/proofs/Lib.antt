@@ -1,0 +1,4 @@
+pub mod Expressions
+pub mod Parts
+pub mod Indexed
+pub mod Repeated
