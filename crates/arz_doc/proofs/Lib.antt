@@ -2,3 +2,4 @@ pub mod Expressions
 pub mod Parts
 pub mod Indexed
 pub mod Repeated
+pub mod TextLevels

@@ -243,17 +243,22 @@ is_there find (Some name) = is_some (find name)
 abbrev pub is_input : Components → List ℕ → Bool
 is_input find text = is_there (find Inputs) (input_name text)
 
-abbrev pub lost_workflows : Json → Check
-lost_workflows names root =
-    at (workflows ++ items_of (codes "dependsOn")) (bad_text (is_workflow names)) root
-    ++ at (steps ++ only (codes "workflowId")) (bad_text (is_workflow names)) root
-    ++ each_action (at (only (codes "workflowId")) (bad_text (is_workflow names))) root
+-- names of workflows that aren't among those that are known
+abbrev pub lost_workflows_by : (List ℕ → Bool) → Check
+lost_workflows_by known root =
+    at (workflows ++ items_of (codes "dependsOn")) (bad_text known) root
+    ++ at (steps ++ only (codes "workflowId")) (bad_text known) root
+    ++ each_action (at (only (codes "workflowId")) (bad_text known)) root
 
-abbrev pub lost_sources : Json → Check
-lost_sources names root =
+-- sources that are descriptions of workflows, and names of sources that aren't among those that are known
+abbrev pub lost_sources_by : (List ℕ → Bool) → Check
+lost_sources_by known root =
     at (sources ++ only (codes "type")) (bad_text (fits Wanted.NotArazzo)) root
-    ++ at (steps ++ only (codes "operationId")) (bad_text (λ s. names_known (is_source names) (source_and_id s))) root
-    ++ at (steps ++ only (codes "operationPath")) (bad_text (λ s. names_known (is_source names) (source_and_pointer s))) root
+    ++ at (steps ++ only (codes "operationId")) (bad_text (λ s. names_known known (source_and_id s))) root
+    ++ at (steps ++ only (codes "operationPath")) (bad_text (λ s. names_known known (source_and_pointer s))) root
+
+abbrev pub lost_names_with : (List ℕ → Bool) → (List ℕ → Bool) → Check
+lost_names_with flows names root = lost_workflows_by flows root ++ lost_sources_by names root
 
 abbrev pub lost_components : Components → Check
 lost_components find root =
@@ -263,7 +268,7 @@ lost_components find root =
     ++ at_each ((workflows ++ parameters_of) ∷ (steps ++ parameters_of) ∷ []) (lost_use find Parameters) root
 
 abbrev pub lost_references : Components → Check
-lost_references find root = lost_workflows root root ++ at workflows (lost_steps_of find) root ++ lost_sources root root ++ lost_components find root
+lost_references find root = lost_names_with (is_workflow root) (is_source root) root ++ at workflows (lost_steps_of find) root ++ lost_components find root
 
 -- ---- a use of a parameter that goes into requests lacks its place
 
@@ -318,10 +323,12 @@ bad_texts = fold-Json Places (List ℕ × Places) text_level member_step
 abbrev pub no_fraction : Check
 no_fraction j = misses j Kind.Solid
 
+-- of an action
+abbrev pub broken_numbers : Check
+broken_numbers j = at (only (codes "retryAfter")) no_fraction j ++ at (only (codes "retryLimit")) no_fraction j
+
 abbrev pub fractions : Check
-fractions root =
-    at_each values no_fraction root
-    ++ each_action (at_each (only (codes "retryAfter") ∷ only (codes "retryLimit") ∷ []) no_fraction) root
+fractions root = at_each values no_fraction root ++ each_action broken_numbers root
 
 abbrev pub is_other : List ℕ → Option (List ℕ) → Bool
 is_other word None = false
@@ -388,3 +395,20 @@ large_numbers root =
 
 abbrev pub over_limits : Check
 over_limits root = long_lists root ++ large_numbers root
+
+-- ---- for private clauses: one level of a tree, with the bad texts of what is inside
+
+abbrev pub named_texts : List Member → List (List ℕ × Places)
+named_texts ms = map (λ m. (m.name, bad_texts m.value)) ms
+
+abbrev pub text_level_in : Json-F Json Member → Json-F Places (List ℕ × Places)
+text_level_in (Json-F.List js) = Json-F.List (map bad_texts js)
+text_level_in (Json-F.Object ms) = Json-F.Object (named_texts ms)
+text_level_in Json-F.Null = Json-F.Null
+text_level_in (Json-F.Flag b) = Json-F.Flag b
+text_level_in (Json-F.Int z) = Json-F.Int z
+text_level_in (Json-F.Text s) = Json-F.Text s
+text_level_in Json-F.Opaque = Json-F.Opaque
+
+abbrev pub text_level_of : Json → Json-F Places (List ℕ × Places)
+text_level_of j = text_level_in (out-Json j)
