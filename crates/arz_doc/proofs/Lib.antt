@@ -3,3 +3,4 @@ pub mod Parts
 pub mod Indexed
 pub mod Repeated
 pub mod TextLevels
+pub mod Orders

@@ -10,9 +10,12 @@ mod exclusive;
 mod guards;
 mod limits;
 mod names;
+mod order;
 mod references;
 mod repeats;
 mod requests;
 mod sites;
 mod texts;
 mod values;
+
+pub use order::{Failure, check, first_refusal};

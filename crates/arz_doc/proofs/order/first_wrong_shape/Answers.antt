@@ -1,0 +1,9 @@
+use Rattle.arz_rules.specs.Misses.{misses}
+use Rattle.arz_rules.specs.declared.kinds.Kind.TheVariants.{Description}
+use Rattle.arz_doc.specs.Indexes.{finds}
+use Rattle.arz_doc.specs.Rules.{placeless_uses}
+use Rattle.arz_doc.proofs.Parts.{joined}
+use Rattle.arz_doc.proofs.order.first_wrong_shape.Goals as goal
+
+pub returns : goal.returns
+returns c = joined (misses c.args.root.now Description) (placeless_uses (finds c.args.components.now) c.args.root.now) _ _ _ c.lesser.ensures c.in_ok-own.ensures c.in_ok-uses.ensures

@@ -1,0 +1,182 @@
+// The rules in order.
+ghost use Rattle.std.specs.Prelude.{◌≡◌, true, codes, IfOk, option_map};
+ghost use Rattle.arz_json.specs.Answer.{Gives};
+ghost use Rattle.arz_json.specs.Tree.{has_form};
+ghost use Rattle.arz_rules.specs.Place.{least, tokens_in};
+ghost use Rattle.arz_rules.specs.Phases.{cause, first_failure, phase};
+ghost use Rattle.arz_doc.specs.Indexes.{finds};
+ghost use Rattle.arz_doc.specs.Order.{wrong_shapes, shape_rules, naming_rules, value_rules, sending_rules, name_rules, content_rules, rules_with, rules as rules_of, seen_failure};
+
+use crate::components::Components;
+use crate::criteria::{first_type_object, first_xpath};
+use crate::duplicates::first_duplicate;
+use crate::exclusive::first_mixture;
+use crate::limits::first_over_limit;
+use crate::names::{first_bad_version, first_wrong_name};
+use crate::references::{first_lost_reference, first_placeless_use};
+use crate::requests::{first_bad_header, first_bad_media_type};
+use crate::values::{first_bad_expression, first_fraction};
+use arz_json::{Json, Place};
+use arz_rules::{Kind, RuleFault, first_miss, lesser, refuse};
+use std::alloc::{AllocError, Global};
+
+/// A rule that a description fails, and the least place at which it fails it.
+#[derive(Debug, Drop)]
+pub struct Failure {
+    /// The rule's number.
+    pub rule: u8,
+    /// The place.
+    pub place: Place,
+}
+
+fn first_wrong_shape(
+    alloc: Global,
+    components: &Components,
+    root: &Json,
+) -> Result<Option<Place>, AllocError>
+    requires { has_form root.now ≡ true }
+    ensures { IfOk result (λ p. tokens_in p ≡ least (wrong_shapes (finds components.now) root.now)) }
+{
+    let own = first_miss(alloc, root, Kind::Description)?;
+    let uses = first_placeless_use(alloc, components, root)?;
+    Ok(lesser(own, uses))
+}
+
+fn first_of_shape(
+    alloc: Global,
+    components: &Components,
+    root: &Json,
+) -> Result<Option<Failure>, AllocError>
+    requires { has_form root.now ≡ true }
+    ensures { IfOk result (λ f. option_map seen_failure f ≡ first_failure (shape_rules (finds components.now) root.now)) }
+{
+    if let Some(place) = first_wrong_shape(alloc, components, root)? {
+        return Ok(Some(Failure { rule: 3, place }));
+    }
+    if let Some(place) = first_bad_version(alloc, root)? {
+        return Ok(Some(Failure { rule: 4, place }));
+    }
+    if let Some(place) = first_wrong_name(alloc, root)? {
+        return Ok(Some(Failure { rule: 5, place }));
+    }
+    Ok(None)
+}
+
+fn first_of_naming(
+    alloc: Global,
+    components: &Components,
+    root: &Json,
+) -> Result<Option<Failure>, AllocError>
+    requires { has_form root.now ≡ true }
+    ensures { IfOk result (λ f. option_map seen_failure f ≡ first_failure (naming_rules (finds components.now) root.now)) }
+{
+    if let Some(place) = first_duplicate(alloc, components, root)? {
+        return Ok(Some(Failure { rule: 6, place }));
+    }
+    if let Some(place) = first_mixture(alloc, root)? {
+        return Ok(Some(Failure { rule: 7, place }));
+    }
+    if let Some(place) = first_lost_reference(alloc, components, root)? {
+        return Ok(Some(Failure { rule: 8, place }));
+    }
+    Ok(None)
+}
+
+fn first_of_values(alloc: Global, root: &Json) -> Result<Option<Failure>, AllocError>
+    requires { has_form root.now ≡ true }
+    ensures { IfOk result (λ f. option_map seen_failure f ≡ first_failure (value_rules root.now)) }
+{
+    if let Some(place) = first_xpath(alloc, root)? {
+        return Ok(Some(Failure { rule: 10, place }));
+    }
+    if let Some(place) = first_type_object(alloc, root)? {
+        return Ok(Some(Failure { rule: 11, place }));
+    }
+    if let Some(place) = first_fraction(alloc, root)? {
+        return Ok(Some(Failure { rule: 12, place }));
+    }
+    if let Some(place) = first_bad_expression(alloc, root)? {
+        return Ok(Some(Failure { rule: 13, place }));
+    }
+    Ok(None)
+}
+
+fn first_of_sending(alloc: Global, root: &Json) -> Result<Option<Failure>, AllocError>
+    requires { has_form root.now ≡ true }
+    ensures { IfOk result (λ f. option_map seen_failure f ≡ first_failure (sending_rules root.now)) }
+{
+    if let Some(place) = first_bad_header(alloc, root)? {
+        return Ok(Some(Failure { rule: 22, place }));
+    }
+    if let Some(place) = first_bad_media_type(alloc, root)? {
+        return Ok(Some(Failure { rule: 23, place }));
+    }
+    if let Some(place) = first_over_limit(alloc, root)? {
+        return Ok(Some(Failure { rule: 24, place }));
+    }
+    Ok(None)
+}
+
+fn first_of_names(
+    alloc: Global,
+    components: &Components,
+    root: &Json,
+) -> Result<Option<Failure>, AllocError>
+    requires { has_form root.now ≡ true }
+    ensures { IfOk result (λ f. option_map seen_failure f ≡ first_failure (name_rules (finds components.now) root.now)) }
+{
+    if let Some(failure) = first_of_shape(alloc, components, root)? {
+        return Ok(Some(failure));
+    }
+    let later = first_of_naming(alloc, components, root)?;
+    Ok(later)
+}
+
+fn first_of_contents(alloc: Global, root: &Json) -> Result<Option<Failure>, AllocError>
+    requires { has_form root.now ≡ true }
+    ensures { IfOk result (λ f. option_map seen_failure f ≡ first_failure (content_rules root.now)) }
+{
+    if let Some(failure) = first_of_values(alloc, root)? {
+        return Ok(Some(failure));
+    }
+    let later = first_of_sending(alloc, root)?;
+    Ok(later)
+}
+
+fn first_with(
+    alloc: Global,
+    components: &Components,
+    root: &Json,
+) -> Result<Option<Failure>, AllocError>
+    requires { has_form root.now ≡ true }
+    ensures { IfOk result (λ f. option_map seen_failure f ≡ first_failure (rules_with (finds components.now) root.now)) }
+{
+    if let Some(failure) = first_of_names(alloc, components, root)? {
+        return Ok(Some(failure));
+    }
+    let later = first_of_contents(alloc, root)?;
+    Ok(later)
+}
+
+/// The least rule that a description fails by itself, and its least place. The numbers are those of the rules for
+/// documents.
+pub fn first_refusal(alloc: Global, root: &Json) -> Result<Option<Failure>, AllocError>
+    requires { has_form root.now ≡ true }
+    ensures { IfOk result (λ f. option_map seen_failure f ≡ first_failure (rules_of root.now)) }
+{
+    let components = Components::of(alloc, root)?;
+    let found = first_with(alloc, &components, root)?;
+    Ok(found)
+}
+
+/// Refuses a description that fails a rule by itself: the least rule, at its least place, under the label `arazzo`.
+pub fn check(alloc: Global, root: &Json) -> Result<(), RuleFault>
+    requires { has_form root.now ≡ true }
+    ensures { Gives (λ u. u) cause result (phase (codes "arazzo") (rules_of root.now) (Ok tt)) }
+{
+    match first_refusal(alloc, root) {
+        Ok(Some(failure)) => Err(refuse(alloc, failure.rule, "arazzo", &failure.place)),
+        Ok(None) => Ok(()),
+        Err(_) => Err(RuleFault::Memory),
+    }
+}
