@@ -13,7 +13,7 @@ use Rattle.arz_json.specs.Tree.{member_step}
 use Rattle.arz_expr.specs.Reading.{after}
 use Rattle.arz_rules.specs.Place.{under, here, here_unless}
 use Rattle.arz_rules.specs.Sites.{Step, member, each_item, each_member, Check, at, at_each, text_named, items, after as more, before}
-use Rattle.arz_rules.specs.Sets.{is_text, is_among, texts_at, bad_text, bad_names}
+use Rattle.arz_rules.specs.Sets.{is_text, is_among, texts_at, bad_text, bad_names, repeats as repeated}
 use Rattle.arz_rules.specs.Texts.{is_name, is_version}
 use Rattle.arz_rules.specs.Misses.{misses}
 use Rattle.arz_rules.specs.declared.kinds.Kind.TheVariants as Kind
@@ -102,21 +102,9 @@ told_member Key.StepId j = codes "stepId"
 told_member (Key.Named part) j = used_name j
 told_member (Key.NamedIn place) j = used_name j
 
-abbrev pub has_key : (Json → Option (List ℕ)) → List Json → List ℕ → Bool
-has_key key [] s = false
-has_key key (j ∷ js) s = is_text (key j) s || has_key key js s
-
-abbrev pub stands_before : (Json → Option (List ℕ)) → List Json → Option (List ℕ) → Bool
-stands_before key earlier None = false
-stands_before key earlier (Some s) = has_key key earlier s
-
-abbrev pub repeats_after : (Json → Option (List ℕ)) → (Json → List ℕ) → List Json → ℕ → List Json → List (List Token)
-repeats_after key told earlier i [] = []
-repeats_after key told earlier i (j ∷ js) = (if stands_before key earlier (key j) then (Index i ∷ Name (told j) ∷ []) ∷ [] else []) ++ repeats_after key told (earlier ++ j ∷ []) (suc i) js
-
 -- the items of a list that have the key of an earlier item
 abbrev pub repeats : Components → Key → Check
-repeats find key j = repeats_after (key_of find key) (told_member key) [] 0 (items j)
+repeats find key = repeated (key_of find key) (told_member key)
 
 -- parameters are told apart by their name and place
 abbrev pub repeated_parameters : Components → Check

@@ -1,17 +1,18 @@
 // What stands a second time in a list of the description.
-ghost use Rattle.std.specs.Prelude.{◌≡◌, true, IfOk};
+ghost use Rattle.std.specs.Prelude.{◌≡◌, true, IfOk, map};
 ghost use Rattle.arz_json.specs.Tree.{has_form};
 ghost use Rattle.arz_rules.specs.Place.{least, tokens_in};
+ghost use Rattle.arz_rules.specs.Sites.{at, at_each, seen_way, seen_site};
 ghost use Rattle.arz_doc.specs.Indexes.{finds};
 ghost use Rattle.arz_doc.specs.declared.repeats.Key.TheVariants.{NamedIn};
 ghost use Rattle.arz_doc.specs.Rules.{repeats, repeated_names, repeated_actions, repeated_givens, duplicates, repeated_parameters as parameters_repeated, repeated_in_step as repeated_below_step};
 
 use crate::components::{Components, Part, runs_workflow};
-use crate::repeats::{Distinct, Key};
+use crate::repeats::{Key, Listed};
 use crate::sites::{failure_lists, success_lists};
 use arz_json::{Json, Location, Place};
 use arz_rules::Way::{EachItem, Member};
-use arz_rules::{Check, Way, first_at, first_at_each, lesser};
+use arz_rules::{Check, Distinct, Way, first_at, first_at_each, lesser};
 use std::alloc::{AllocError, Global};
 
 fn first_place(
@@ -23,10 +24,11 @@ fn first_place(
     requires { has_form list.now ≡ true }
     ensures { IfOk result (λ p. tokens_in p ≡ least (repeats (finds components.now) (NamedIn place) list.now)) }
 {
-    let check = Distinct {
+    let listed = Listed {
         components,
         key: Key::NamedIn(place),
     };
+    let check = Distinct { keyed: &listed };
     check.first(alloc, list)
 }
 
@@ -76,11 +78,8 @@ fn first_in_step(
     ensures { IfOk result (λ p. tokens_in p ≡ least (repeated_below_step (finds components.now) step.now)) }
 {
     if runs_workflow(step) {
-        let by_name = Distinct {
-            components,
-            key: Key::Named(Part::Parameters),
-        };
-        first_at(alloc, &PARAMETERS, &by_name, step)
+        let key = Key::Named(Part::Parameters);
+        first_at_list(alloc, components, key, &PARAMETERS, step)
     } else {
         first_at(alloc, &PARAMETERS, &DistinctParameters { components }, step)
     }
@@ -118,6 +117,34 @@ const WORKFLOW_PARAMETERS: [Way<'static>; 3] = [
     Member("parameters"),
 ];
 
+fn first_at_list(
+    alloc: Global,
+    components: &Components,
+    key: Key,
+    ways: &[Way],
+    root: &Json,
+) -> Result<Option<Place>, AllocError>
+    requires { has_form root.now ≡ true }
+    ensures { IfOk result (λ p. tokens_in p ≡ least (at (map seen_way ways.now) (repeats (finds components.now) key) root.now)) }
+{
+    let listed = Listed { components, key };
+    first_at(alloc, ways, &Distinct { keyed: &listed }, root)
+}
+
+fn first_at_lists(
+    alloc: Global,
+    components: &Components,
+    key: Key,
+    sites: &[&[Way]],
+    root: &Json,
+) -> Result<Option<Place>, AllocError>
+    requires { has_form root.now ≡ true }
+    ensures { IfOk result (λ p. tokens_in p ≡ least (at_each (map seen_site sites.now) (repeats (finds components.now) key) root.now)) }
+{
+    let listed = Listed { components, key };
+    first_at_each(alloc, sites, &Distinct { keyed: &listed }, root)
+}
+
 fn first_name(
     alloc: Global,
     components: &Components,
@@ -126,21 +153,9 @@ fn first_name(
     requires { has_form root.now ≡ true }
     ensures { IfOk result (λ p. tokens_in p ≡ least (repeated_names (finds components.now) root.now)) }
 {
-    let by_name = Distinct {
-        components,
-        key: Key::Name,
-    };
-    let sources = first_at(alloc, &SOURCE_LIST, &by_name, root)?;
-    let by_workflow = Distinct {
-        components,
-        key: Key::WorkflowId,
-    };
-    let workflows = first_at(alloc, &WORKFLOW_LIST, &by_workflow, root)?;
-    let by_step = Distinct {
-        components,
-        key: Key::StepId,
-    };
-    let steps = first_at(alloc, &STEP_LISTS, &by_step, root)?;
+    let sources = first_at_list(alloc, components, Key::Name, &SOURCE_LIST, root)?;
+    let workflows = first_at_list(alloc, components, Key::WorkflowId, &WORKFLOW_LIST, root)?;
+    let steps = first_at_list(alloc, components, Key::StepId, &STEP_LISTS, root)?;
     let outer = lesser(sources, workflows);
     Ok(lesser(outer, steps))
 }
@@ -153,16 +168,10 @@ fn first_action(
     requires { has_form root.now ≡ true }
     ensures { IfOk result (λ p. tokens_in p ≡ least (repeated_actions (finds components.now) root.now)) }
 {
-    let by_success = Distinct {
-        components,
-        key: Key::Named(Part::SuccessActions),
-    };
-    let successes = first_at_each(alloc, success_lists(), &by_success, root)?;
-    let by_failure = Distinct {
-        components,
-        key: Key::Named(Part::FailureActions),
-    };
-    let failures = first_at_each(alloc, failure_lists(), &by_failure, root)?;
+    let success = Key::Named(Part::SuccessActions);
+    let successes = first_at_lists(alloc, components, success, success_lists(), root)?;
+    let failure = Key::Named(Part::FailureActions);
+    let failures = first_at_lists(alloc, components, failure, failure_lists(), root)?;
     Ok(lesser(successes, failures))
 }
 

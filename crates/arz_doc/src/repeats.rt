@@ -1,14 +1,14 @@
 // What stands a second time in a list.
-ghost use Rattle.std.specs.Prelude.{◌≡◌, ◌||◌, [], ◌∷◌, IfOk, OnOk, ℕ, List, option_map, if◌then◌else◌, Some, None};
+ghost use Rattle.std.specs.Prelude.{◌≡◌, [], ◌∷◌, IfOk, option_map, if◌then◌else◌, Some, None};
 ghost use Rattle.arz_json.specs.declared.place.Token.TheVariants.{Name};
-ghost use Rattle.arz_rules.specs.Place.{least, tokens_in};
+ghost use Rattle.arz_rules.specs.Place.{tokens_in};
 ghost use Rattle.arz_doc.specs.Indexes.{finds};
-ghost use Rattle.arz_doc.specs.Rules.{place_word as word_of_place, key_of, told_member as member_told, used_name as name_used, name_if_in as name_in_place, repeats_after};
-ghost use Rattle.arz_rules.specs.Sets.{has, has_text, is_text};
+ghost use Rattle.arz_doc.specs.Rules.{place_word as word_of_place, key_of, told_member as member_told, used_name as name_used, name_if_in as name_in_place};
+ghost use Rattle.arz_rules.specs.Sets.{is_text};
 
 use crate::components::{Components, Part, actual, is_reuse, text_of};
-use arz_json::{Json, Location, Many, Place};
-use arz_rules::{Check, TextSet, below_index, below_name, lesser, root_unless};
+use arz_json::{Json, Location, Place};
+use arz_rules::{Keyed, below_name, root_unless};
 use std::alloc::{AllocError, Global};
 
 /// By what the items of a list are told apart.
@@ -84,54 +84,28 @@ fn told_member(key: Key, item: &Json) -> &'static str
     }
 }
 
-fn note_key<'a>(seen: &mut TextSet<'a>, key: Option<&'a str>) -> Result<bool, AllocError>
-    ensures was { IfOk result (λ was. was ≡ has_text seen.old (option_map (λ t. t.now) key.entry)) }
-    ensures now { OnOk result ((q : List ℕ) → has seen.new q ≡ is_text (option_map (λ t. t.now) key.entry) q || has seen.old q) }
-{
-    match key {
-        Some(text) => seen.put(text),
-        None => Ok(false),
-    }
-}
-
-/// No two items of a list have one key.
+/// By what the items of a list of a description are told apart, which has these components.
 #[derive(Drop)]
-pub struct Distinct<'s, 'a> {
+pub struct Listed<'s, 'a> {
     pub components: &'s Components<'a>,
     pub key: Key,
 }
 
-impl<'s, 'a> Check for Distinct<'s, 'a> {
+impl<'s, 'a> Keyed for Listed<'s, 'a> {
     ghost use Rattle.arz_doc.specs.Indexes.{finds};
-    ghost use Rattle.arz_doc.specs.Rules.{repeats};
+    ghost use Rattle.arz_doc.specs.Rules.{key_of as key_text, told_member};
 
-    ghost places = { λ c. repeats (finds c.components.now) c.key };
+    ghost key_of = { λ c. key_text (finds c.components.now) c.key };
 
-    fn first(&self, alloc: Global, tree: &Json) -> Result<Option<Place>, AllocError> {
-        let components = self.components;
-        match tree {
-            Json::List(items) => first_repeat(alloc, components, self.key, items),
-            _ => Ok(None),
-        }
+    ghost told_at = { λ c. told_member c.key };
+
+    fn key<'k>(&'k self, item: &'k Json) -> Option<&'k str> {
+        key_in(self.components, self.key, item)
     }
-}
 
-fn first_repeat<'a: 'i, 'i>(
-    alloc: Global,
-    components: &Components<'a>,
-    key: Key,
-    items: &'i Many<Json>,
-) -> Result<Option<Place>, AllocError>
-    ensures { IfOk result (λ p. tokens_in p ≡ least (repeats_after (key_of (finds components.now) key) (member_told key) [] 0 items.now)) }
-{
-    let mut seen = TextSet::new(alloc);
-    let mut best = None;
-    for (i, item) in items.as_slice().iter().enumerate() {
-        let is_repeat = note_key(&mut seen, key_in(components, key, item))?;
-        let found = member_if(alloc, is_repeat, told_member(key, item))?;
-        best = lesser(best, below_index(i, found)?);
+    fn told(&self, item: &Json) -> &'static str {
+        told_member(self.key, item)
     }
-    Ok(best)
 }
 
 /// The place of a member, where it is told.
