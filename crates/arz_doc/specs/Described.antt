@@ -1,5 +1,5 @@
 -- Where the parts of a description stand (Arazzo 1.0.1, section 4.6).
-use Rattle.std.specs.Prelude.{ℕ, List, [], ◌∷◌, ◌++◌, map, codes, Bool, true, false, not, Option, Some, None, option_and_then, if◌then◌else◌}
+use Rattle.std.specs.Prelude.{ℕ, List, [], ◌∷◌, ◌++◌, codes, Bool, Option, Some, option_and_then, if◌then◌else◌}
 use Rattle.std.specs.Option.{is_some}
 use Rattle.arz_json.specs.declared.tree.Json.{Json}
 use Rattle.arz_json.specs.Look.{member_in, members_at}

@@ -1,5 +1,5 @@
 -- The rules that a description must keep, each as the places that fail it.
-use Rattle.std.specs.Prelude.{ℕ, zero, suc, ℤ, pos, negsuc, List, [], ◌∷◌, ◌++◌, ◌+◌, map, length, codes, ◌&&◌, ◌||◌, ◌==◌, Bool, true, false, not, nat_le, Option, Some, None, option_and_then, if◌then◌else◌}
+use Rattle.std.specs.Prelude.{ℕ, suc, ℤ, pos, negsuc, List, [], ◌∷◌, ◌++◌, ◌+◌, map, length, codes, ◌&&◌, ◌||◌, ◌==◌, Bool, true, false, not, nat_le, Option, Some, None, option_and_then, if◌then◌else◌}
 use Rattle.std.specs.Str.{bytes_eq}
 use Rattle.std.specs.Option.{is_some}
 use Rattle.arz_json.specs.declared.tree.Json.{Json, out-Json}
@@ -8,25 +8,23 @@ use Rattle.arz_json.specs.declared.tree.Json.TheFolds.{fold-Json}
 use Rattle.arz_json.specs.declared.tree.Member.{Member}
 use Rattle.arz_json.specs.declared.place.Token.{Token}
 use Rattle.arz_json.specs.declared.place.Token.TheVariants.{Name, Index}
-use Rattle.arz_json.specs.Look.{member_in, text_in, int_in, object_in}
+use Rattle.arz_json.specs.Look.{member_in, int_in, object_in}
 use Rattle.arz_json.specs.Tree.{member_step}
 use Rattle.arz_expr.specs.Reading.{after}
-use Rattle.arz_rules.specs.Place.{under, here, here_unless}
-use Rattle.arz_rules.specs.Sites.{Step, member, each_item, each_member, Check, at, at_each, text_named, items, after as more, before}
+use Rattle.arz_rules.specs.Place.{under, here_unless}
+use Rattle.arz_rules.specs.Sites.{Step, member, each_member, Check, at, at_each, text_named, items, after as more, before}
 use Rattle.arz_rules.specs.Sets.{is_text, is_among, texts_at, bad_text, bad_names, repeats as repeated}
 use Rattle.arz_rules.specs.Texts.{is_name, is_version}
 use Rattle.arz_rules.specs.Misses.{misses}
 use Rattle.arz_rules.specs.declared.kinds.Kind.TheVariants as Kind
 use Rattle.arz_doc.specs.Texts.{is_header, is_media_type, is_expression, is_value_text, is_operation_path, source_and_id, source_and_pointer}
-use Rattle.arz_doc.specs.Described.{Components, only, items_of, sources, workflows, own_steps, steps, part_name, each_component, component, is_reuse, reused_name, actual, unless_reuse, runs_workflow, success_lists, failure_lists, success_items, failure_items, each_action, each_criterion, parameters_of, values}
+use Rattle.arz_doc.specs.Described.{Components, only, items_of, sources, workflows, own_steps, steps, part_name, each_component, is_reuse, reused_name, actual, unless_reuse, runs_workflow, success_lists, failure_lists, success_items, failure_items, each_action, each_criterion, parameters_of, values}
 use Rattle.arz_doc.specs.declared.components.Part.{Part}
 use Rattle.arz_doc.specs.declared.components.Part.TheVariants.{Inputs, Parameters, SuccessActions, FailureActions}
 use Rattle.arz_json.specs.declared.tree.Location.{Location}
 use Rattle.arz_json.specs.declared.tree.Location.TheVariants.{Path, Query, Header, Cookie}
 use Rattle.arz_doc.specs.declared.checks.Wanted.{Wanted}
-use Rattle.arz_doc.specs.declared.checks.Wanted.TheVariants as Wanted
 use Rattle.arz_doc.specs.declared.repeats.Key.{Key}
-use Rattle.arz_doc.specs.declared.repeats.Key.TheVariants as Key
 
 -- the texts that a member may be asked to be
 abbrev pub fits : Wanted → List ℕ → Bool
