@@ -1,5 +1,19 @@
-//! Descriptions of workflows (Arazzo 1.0.1): the rules that a description must keep, and the least of them that it
-//! fails.
+//! Descriptions of workflows (Arazzo 1.0.1): the rules that a description must keep by itself, and the least of them
+//! that it fails.
+//!
+//! | number | fails where |
+//! |---|---|
+//! | 3 | a member is missing or of another kind, or a parameter that goes into requests refers to one without a place |
+//! | 4 | the version isn't one of Arazzo 1.0 |
+//! | 5 | the name of a source, workflow, step, output or component is no name |
+//! | 6 | what tells the items of a list apart stands a second time |
+//! | 7 | members of a step or of an action exclude each other |
+//! | 8 | a workflow, step, source or component that is named isn't there, or a source is a description of workflows |
+//! | 10, 11 | the type of a criterion is XPath, or an object |
+//! | 12 | a number isn't kept |
+//! | 13 | a text that must be an expression or an operationPath is none |
+//! | 22, 23 | a header field may not be given, or a media type can't be sent |
+//! | 24 | a list is too long, or a number too large |
 #![tactic(auto)]
 
 mod checks;
