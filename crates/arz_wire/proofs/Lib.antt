@@ -8,3 +8,4 @@ pub mod Found
 pub mod Entered
 pub mod Again
 pub mod Stays
+pub mod Measures
