@@ -1,0 +1,5 @@
+pub mod Children
+pub mod Merging
+pub mod Removal
+pub mod Weight
+pub mod Members

@@ -1,0 +1,7 @@
+//! Overlays (Overlay 1.0.0): reading them, and applying their actions to a tree.
+#![tactic(auto)]
+
+mod children;
+mod members;
+mod merging;
+mod tally;
