@@ -24,7 +24,7 @@ pub use copies::{copy, holds_opaque};
 pub use look::{into_value_named, items_at, members_at, text_at, value_named};
 pub use many::Many;
 pub use place::{Place, Token};
-pub use placing::{PutFault, is_deeper, put};
+pub use placing::{PutFault, is_deeper, put, swap_child};
 pub use pointer::at;
 pub use reader::{JsonFault, read};
 pub use text::{Bytes, Text, split_once};

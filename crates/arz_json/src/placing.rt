@@ -114,8 +114,9 @@ fn member_index(members: &Members, token: &str) -> Option<usize>
     None
 }
 
-// Trades the child at a place.
-fn swap_child(tree: Json, at: usize, child: Json) -> (Json, Json)
+/// Trades a child for another: the item of a list, or the value of an object's member, by its number, which
+/// counts from 0. It takes no memory.
+pub fn swap_child(tree: Json, at: usize, child: Json) -> (Json, Json)
     requires { at < length (children tree) }
     ensures after { result.0 ≡ set_child tree at child }
     ensures child { slice_get (children tree) at ≡ Some result.1 }
