@@ -51,7 +51,7 @@ order_set [] i c = refl
 order_set (m ∷ ms) zero c = refl
 order_set (m ∷ ms) (suc i) c = ap₂ (λ a b. a && b) (first_set m.name ms i c) (order_set ms i c)
 
-form_in : (j : Json) (x : Json-F Json Member) (i : ℕ) (c : Json) → out-Json j ≡ x → has_form j ≡ true → has_form c ≡ true → has_form (set_child_in j i c x) ≡ true
+pub form_in : (j : Json) (x : Json-F Json Member) (i : ℕ) (c : Json) → out-Json j ≡ x → has_form j ≡ true → has_form c ≡ true → has_form (set_child_in j i c x) ≡ true
 form_in j (Json-F.List js) i c e h f =
     folded-List Bool form_step (set js i c) ∙ items_form js i c (sym (folded-List Bool form_step js) ∙ ap has_form (is_list j js e) ∙ h) f
 form_in j (Json-F.Object ms) i c e h f =
@@ -79,7 +79,7 @@ map_values : (ms : List Member) → map has_form (map (λ m. m.value) ms) ≡ ma
 map_values [] = refl
 map_values (m ∷ ms) = ap (λ bs. has_form m.value ∷ bs) (map_values ms)
 
-child_form : (j : Json) (x : Json-F Json Member) (i : ℕ) (k : Json) → out-Json j ≡ x → slice_get (children_in x) i ≡ Some k → has_form j ≡ true → has_form k ≡ true
+pub child_form : (j : Json) (x : Json-F Json Member) (i : ℕ) (k : Json) → out-Json j ≡ x → slice_get (children_in x) i ≡ Some k → has_form j ≡ true → has_form k ≡ true
 child_form j (Json-F.List js) i k e g h = all_get js i k g (sym (folded-List Bool form_step js) ∙ ap has_form (is_list j js e) ∙ h)
 child_form j (Json-F.Object ms) i k e g h = all_get (map (λ m. m.value) ms) i k g (ap all_true (map_values ms) ∙ members_form ms (ap has_form (is_object j ms e) ∙ h))
 child_form j Json-F.Null i k e g h = absurd (cc)

@@ -3,3 +3,7 @@ pub mod Searched
 pub mod Weights
 pub mod Lists
 pub mod Merged
+pub mod Forms
+pub mod Changes
+pub mod Grouped
+pub mod Removals

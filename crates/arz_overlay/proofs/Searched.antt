@@ -69,7 +69,7 @@ pub rising : (ms : List Member) (name : List ℕ) → are_ordered (map form_of m
 rising ms name e = searchable_from_sorted nat_list_cmp_total (λ m. m.name) ms name (λ k d low high. rw add-one (adjacent ms e k d (omega arith)))
 
 -- no name stands before the one that is found
-equal : (o : Ordering) → is_eq o ≡ true → o ≡ Equal
+pub equal : (o : Ordering) → is_eq o ≡ true → o ≡ Equal
 equal Less e = absurd (cc)
 equal Equal e = refl
 equal Greater e = absurd (cc)

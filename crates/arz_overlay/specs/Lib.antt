@@ -3,3 +3,5 @@ pub mod Merging
 pub mod Removal
 pub mod Weight
 pub mod Members
+pub mod Faults
+pub mod Groups

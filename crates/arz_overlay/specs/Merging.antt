@@ -71,3 +71,26 @@ added_items us = map (λ u. merged u None) us
 
 abbrev pub merge_of : Member → List ℕ × Merge
 merge_of m = (m.name, merged m.value)
+
+-- ---- an action's update at a selected place
+
+-- rules that an action fails: the value is no object or list; the update of an object is none
+abbrev pub no_target : ℕ
+no_target = 25
+
+abbrev pub no_match : ℕ
+no_match = 26
+
+abbrev pub merged_if : Json → Json → Json-F Json Member → Result Json ℕ
+merged_if u j (Json-F.Object us) = Ok (merged u (Some j))
+merged_if u j _ = Err no_match
+
+abbrev pub updated_in : Json → Json → Json-F Json Member → Result Json ℕ
+updated_in u j (Json-F.List js) = Ok (ListOf (js ++ u ∷ []))
+updated_in u j (Json-F.Object ms) = merged_if u j (out-Json u)
+updated_in u j _ = Err no_target
+
+-- what an update makes of a selected value: a list gets it as its last item, and an object is merged with it,
+-- which must be an object then
+abbrev pub updated : Json → Json → Result Json ℕ
+updated u j = updated_in u j (out-Json j)

@@ -1,5 +1,5 @@
 -- A tree without the places of a set (Overlay 1.0.0, section 4.4.3.1).
-use Rattle.std.specs.Prelude.{ℕ, ◌+◌, ◌==◌, List, [], ◌∷◌, Bool, true, false, if◌then◌else◌}
+use Rattle.std.specs.Prelude.{ℕ, ◌+◌, ◌==◌, List, [], ◌∷◌, map, Bool, true, false, if◌then◌else◌, Option, Some, None, option_map}
 use Rattle.std.specs.List.{list_any}
 use Rattle.std.specs.Str.{bytes_eq}
 use Rattle.arz_json.specs.Tree.{member_step}
@@ -62,3 +62,18 @@ removal_step Json-F.Opaque ps = Opaque
 -- the tree without what stands at any of the places
 abbrev pub without : Json → Removal
 without = fold-Json Removal (List ℕ × Removal) removal_step member_step
+
+-- ---- for private clauses
+
+-- what a removal leaves of a child, with the places below it
+abbrev pub child_kept : Json → Places → Option Json
+child_kept j ps = if has_end ps then None else Some (without j ps)
+
+abbrev pub member_kept : Member → Places → Option Member
+member_kept m ps = option_map (λ j. member m.name j) (child_kept m.value ps)
+
+abbrev pub items_kept : Places → ℕ → List Json → List Json
+items_kept ps i js = kept_items ps i (map without js)
+
+abbrev pub members_kept : Places → List Member → List Member
+members_kept ps ms = kept_members ps (map (λ m. (m.name, without m.value)) ms)

@@ -31,8 +31,8 @@ fn item_index(len: usize, at: u64) -> Option<usize>
     }
 }
 
-// By a binary search.
-fn member_index(members: &[Member], name: &str) -> Option<usize>
+/// The number of the member with a name, by a binary search.
+pub fn member_index(members: &[Member], name: &str) -> Option<usize>
     requires { are_ordered (map (λ m. (m.name, has_form m.value)) members.now) ≡ true }
     ensures { result ≡ place_of members.now name.now }
 {
