@@ -1,5 +1,5 @@
 -- What is left of a tree, a level and a child at a time.
-use Rattle.std.proofs.Common.{◌≡◌, ℕ, suc, ◌+◌, List, [], ◌∷◌, ◌++◌, map, Bool, true, false, cond, Option, Some, None, option_map, refl, sym, ap, ap₂, ◌∙◌, rules}
+use Rattle.std.proofs.Common.{◌≡◌, ℕ, zero, suc, ◌+◌, ◌==◌, length, drop, arith, List, [], ◌∷◌, ◌++◌, map, Bool, true, false, cond, Option, Some, None, option_map, refl, sym, ap, ap₂, ◌∙◌, rules}
 use Rattle.std.specs.Option.{option_to_list}
 use Rattle.arz_json.specs.declared.tree.Json.{Json, the_lemmas}
 use Rattle.arz_json.specs.declared.tree.Json.TheVariants.{Null, Flag, Int, Text, List as ListOf, Object, Opaque}
@@ -7,6 +7,12 @@ use Rattle.arz_json.specs.declared.tree.Member.{Member}
 use Rattle.arz_json.specs.declared.place.Token.TheVariants.{Name, Index}
 use Rattle.arz_json.proofs.Layers.{folded-List, folded-Object}
 use Rattle.arz_json.proofs.Induction.{Each, EachValue, Levels, induction}
+use Rattle.std.proofs.lemmas.Bool.{eqb-true}
+use Rattle.arz_json.specs.Tree.{has_form}
+use Rattle.arz_overlay.specs.declared.groups.Way.{Way}
+use Rattle.arz_overlay.specs.Groups.{ways_seen}
+use Rattle.arz_overlay.proofs.Forms.{items_form, values_form}
+use Rattle.arz_overlay.proofs.Lists.{right}
 use Rattle.arz_overlay.specs.Merging.{member}
 use Rattle.arz_overlay.specs.Removal.{Places, Removal, below, has_end, removal_step, without, kept_items, kept_members, child_kept, member_kept, items_kept, members_kept}
 
@@ -57,3 +63,19 @@ levels = record {
 
 pub without_none : (j : Json) → without j [] ≡ j
 without_none j = induction Stays levels j
+
+pub none_seen : (ws : List Way) → (length ws == 0) ≡ true → ways_seen ws ≡ []
+none_seen [] e = refl
+none_seen (w ∷ ws) e = let h : length (w ∷ ws) ≡ 0 = eqb-true (length (w ∷ ws)) 0 e in absurd (omega (arith, h))
+
+-- ---- what holds of all holds of those from a place on
+
+pub items_form-drop : (i : ℕ) (js : List Json) → items_form js ≡ true → items_form (drop i js) ≡ true
+items_form-drop zero js h = h
+items_form-drop (suc i) [] h = h
+items_form-drop (suc i) (j ∷ js) h = items_form-drop i js (right (has_form j) _ h)
+
+pub values_form-drop : (i : ℕ) (ms : List Member) → values_form ms ≡ true → values_form (drop i ms) ≡ true
+values_form-drop zero ms h = h
+values_form-drop (suc i) [] h = h
+values_form-drop (suc i) (m ∷ ms) h = values_form-drop i ms (right (has_form m.value) _ h)

@@ -1,9 +1,10 @@
 -- How many bytes there are in lists.
-use Rattle.std.proofs.Common.{◌≡◌, ◌+◌, List, [], ◌∷◌, ◌++◌, length, ap, ◌∙◌, arith, length-append}
+use Rattle.std.specs.Option.{option_to_list}
+use Rattle.std.proofs.Common.{◌≡◌, ◌≤◌, ℕ, zero, suc, drop, Option, Some, None, refl, ◌+◌, List, [], ◌∷◌, ◌++◌, length, ap, ◌∙◌, arith, length-append}
 use Rattle.arz_json.specs.declared.tree.Json.{Json}
 use Rattle.arz_json.specs.declared.tree.Member.{Member}
 use Rattle.arz_wire.specs.Spelling.{spelling, spellings, counted, member_spellings}
-use Rattle.arz_overlay.specs.Weight.{weight, name_weight, items_weight, members_weight}
+use Rattle.arz_overlay.specs.Weight.{weight, weight_there, name_weight, items_weight, members_weight}
 
 pub items_weight-cons : (j : Json) (js : List Json) → items_weight (j ∷ js) ≡ weight j + items_weight js
 items_weight-cons j js = length-append (spelling j) (spellings js)
@@ -35,3 +36,17 @@ members_weight-append (m ∷ ms) ns =
     let b = members_weight-cons m ms in
     let c = members_weight-append ms ns in
     omega (arith, a, b, c)
+
+pub items_weight-drop : (i : ℕ) (js : List Json) → items_weight (drop i js) ≤ items_weight js
+items_weight-drop zero js = omega arith
+items_weight-drop (suc i) [] = omega arith
+items_weight-drop (suc i) (j ∷ js) = let a = items_weight-cons j js in let b = items_weight-drop i js in omega (arith, a, b)
+
+pub members_weight-drop : (i : ℕ) (ms : List Member) → members_weight (drop i ms) ≤ members_weight ms
+members_weight-drop zero ms = omega arith
+members_weight-drop (suc i) [] = omega arith
+members_weight-drop (suc i) (m ∷ ms) = let a = members_weight-cons m ms in let b = members_weight-drop i ms in omega (arith, a, b)
+
+pub items_weight-option : (o : Option Json) → items_weight (option_to_list o) ≡ weight_there o
+items_weight-option None = refl
+items_weight-option (Some j) = let a = items_weight-cons j [] in omega (arith, a)

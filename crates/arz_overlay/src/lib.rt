@@ -6,4 +6,5 @@ mod children;
 mod groups;
 mod members;
 mod merging;
+mod removing;
 mod tally;
