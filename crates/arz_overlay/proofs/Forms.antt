@@ -15,7 +15,7 @@ use Rattle.arz_json.proofs.Layers.{folded-List, folded-Object, values_of-map, me
 use Rattle.arz_json.proofs.Trades.{is_list, is_object}
 use Rattle.arz_json.proofs.Induction.{Each, EachValue, Levels, induction}
 use Rattle.arz_overlay.specs.Merging.{Merge, merge_step, merged, merge_of, member, with_member, with_member_by, with_members, added_items, items_in, members_in, items_there, members_there}
-use Rattle.arz_overlay.proofs.Merged.{merged_list, merged_object}
+use Rattle.arz_overlay.proofs.MergedLevels.{merged_list, merged_object}
 use Rattle.arz_overlay.proofs.Merges.{form_of}
 use Rattle.arz_overlay.proofs.Lists.{left, right}
 

@@ -2,7 +2,7 @@ pub mod Merges
 pub mod Searched
 pub mod Weights
 pub mod Lists
-pub mod Merged
+pub mod MergedLevels
 pub mod Forms
 pub mod Changes
 pub mod Grouped

@@ -5,3 +5,4 @@ pub mod Weight
 pub mod Members
 pub mod Faults
 pub mod Groups
+pub mod Actions

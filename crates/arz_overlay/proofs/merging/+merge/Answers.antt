@@ -9,7 +9,7 @@ use Rattle.arz_overlay.specs.Merging.{added_items, merged, merge_of, with_member
 use Rattle.arz_overlay.specs.Weight.{weight, items_weight, members_weight}
 use Rattle.arz_overlay.proofs.Weights.{items_weight-push}
 use Rattle.arz_overlay.proofs.Merges.{AreReady, AreBefore, Put, form_of, put_gives, put_ready, put_weighs}
-use Rattle.arz_overlay.proofs.Merged.{merged_list}
+use Rattle.arz_overlay.proofs.MergedLevels.{merged_list}
 use Rattle.arz_overlay.proofs.Lists.{drop_at, left, right}
 use Rattle.arz_overlay.proofs.merging.+merge.Goals as goal
 
