@@ -1,1 +1,5 @@
+mod Lasts
+pub mod Moments
+mod Replayed
+mod Tapes
 mod Times

@@ -8,6 +8,8 @@ mod memory_files;
 mod memory_sink;
 mod messages;
 mod sink;
+mod tape;
+mod world;
 
 pub use calls::note_fault;
 pub use files::{FileFault, Files};
@@ -15,3 +17,5 @@ pub use memory_files::{MemoryFiles, NamedBytes};
 pub use memory_sink::MemorySink;
 pub use messages::{Header, Reply, Request, Sent, Server};
 pub use sink::{Sink, SinkFault};
+pub use tape::{Call, Span, Torn};
+pub use world::{DiskFault, LinkFault, Talk, World};
