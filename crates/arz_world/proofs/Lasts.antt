@@ -1,5 +1,5 @@
 -- The last talk is changed, by trading it for another and back.
-use Rattle.std.proofs.Common.{◌≡◌, ℕ, zero, suc, ◌+◌, ◌-◌, List, [], ◌∷◌, length, IsTrue, false, refl, sym, ◌∙◌, ap, subst, arith, Option, Some, slice_get, slice_set}
+use Rattle.std.proofs.Common.{◌≡◌, ℕ, zero, suc, ◌+◌, ◌-◌, List, [], ◌∷◌, length, IsTrue, false, refl, sym, ◌∙◌, ap, arith, Some, slice_get, slice_set}
 use Rattle.arz_world.specs.World.{on_last}
 use Rattle.arz_world.specs.declared.world.Talk.{Talk}
 

@@ -1,5 +1,5 @@
 -- How a statement on each moment goes on from call to call.
-use Rattle.std.proofs.Common.{◌≡◌, ◌⊎◌, inl, inr, ℕ, ◌+◌, ◌≤◌, List, sym, ◌∙◌, subst, arith, IsTrue}
+use Rattle.std.proofs.Common.{◌≡◌, inl, inr, ℕ, List, sym, ◌∙◌, subst, arith, IsTrue}
 use Rattle.std.proofs.lemmas.Bool.{cases_lt}
 use Rattle.arz_world.specs.World.{WorldView, talks, IsImage, Later, Elapses, DiskCall, IsWorld}
 use Rattle.arz_world.specs.declared.world.Talk.{Talk}
@@ -7,8 +7,13 @@ use Rattle.arz_world.specs.Moments.{EachMoment}
 
 pub later_refl : (w : WorldView) → Later w w
 later_refl w = record {
-  tells = λ i. w.tells; moment = omega arith; disk_faults = omega arith; link_faults = omega arith;
-  images = λ t i le left. left; keeps = λ t i le left. left; talks = λ t le i. w.talks_at t;
+  tells = λ i. w.tells;
+  moment = omega arith;
+  disk_faults = omega arith;
+  link_faults = omega arith;
+  images = λ t i le left. left;
+  keeps = λ t i le left. left;
+  talks = λ t le i. w.talks_at t;
 }
 
 pub later_trans : (a b c : WorldView) → Later a b → Later b c → Later a c

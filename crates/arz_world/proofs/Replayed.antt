@@ -1,12 +1,12 @@
 -- One call more in the record of a world in memory.
-use Rattle.std.proofs.Common.{◌≡◌, ℕ, ◌+◌, ◌≤◌, min, Bool, List, [], ◌∷◌, ◌++◌, length, take, drop, refl, sym, ◌∙◌, ap, subst, arith, length-append, append_assoc}
-use Rattle.std.proofs.lemmas.List.{append-nil, take_all, take-append-le, drop_at}
-use Rattle.arz_world.specs.World.{WorldView, talks, IsImage, NoNewImage, IsStable, IsRead, Later, Elapses, DiskCall, LinkCall, IsTorn, AreTornBy, written, on_last, with_sent, with_received}
+use Rattle.std.proofs.Common.{◌≡◌, ℕ, ◌+◌, ◌≤◌, min, List, [], ◌∷◌, ◌++◌, length, take, refl, sym, ◌∙◌, ap, subst, arith, length-append}
+use Rattle.std.proofs.lemmas.List.{take_all, take-append-le}
+use Rattle.arz_world.specs.World.{WorldView, talks, IsImage, NoNewImage, IsStable, Elapses, DiskCall, LinkCall, IsTorn, AreTornBy, written}
 use Rattle.arz_world.specs.Replay.{Record, State, start, step, replay, state, noted, IsImageOf, AreTorn, replay_image, told_by}
 use Rattle.arz_world.specs.declared.world.Talk.{Talk}
 use Rattle.arz_world.specs.declared.tape.Span.{Span}
 use Rattle.arz_world.specs.declared.tape.Call.{Call}
-use Rattle.arz_world.specs.declared.tape.Call.TheVariants.{Attached, Wrote, Synced, Connected, Sent, Received}
+use Rattle.arz_world.specs.declared.tape.Call.TheVariants.{Wrote, Synced}
 
 pub replay_push : (s : State) (calls : List Call) (call : Call) → replay s (calls ++ call ∷ []) ≡ step (replay s calls) call
 replay_push s [] call = refl

@@ -1,5 +1,5 @@
 -- What the tape keeps stays right after one call more.
-use Rattle.std.proofs.Common.{◌≡◌, ℕ, ◌+◌, ◌≤◌, min, Bool, List, [], ◌∷◌, ◌++◌, length, sym, ◌∙◌, ap, arith, subst}
+use Rattle.std.proofs.Common.{◌≡◌, ℕ, ◌≤◌, min, Bool, List, [], ◌∷◌, ◌++◌, length, sym, ◌∙◌, ap, arith}
 use Rattle.arz_world.specs.World.{written, on_last, with_sent, with_received, fresh}
 use Rattle.arz_world.specs.Replay.{Record, start, step, replay, state}
 use Rattle.arz_world.specs.declared.messages.Server.{Server}

@@ -1,5 +1,5 @@
 -- What the calls of a world in memory come to, at each moment.
-use Rattle.std.specs.Prelude.{◌≡◌, ◌+◌, ◌≤◌, min, ℕ, Bool, true, List, [], ◌∷◌, ◌++◌, length, take, drop, replicate}
+use Rattle.std.specs.Prelude.{◌≡◌, ◌+◌, ◌≤◌, min, ℕ, true, List, [], ◌∷◌, ◌++◌, length, take, drop, replicate}
 use Rattle.std.proofs.Common.{refl, sym, ap, subst, ◌∙◌, arith, append_assoc, length-append, length-drop}
 use Rattle.std.proofs.lemmas.List.{take_all, take_at, drop_at, length-take-le}
 use Rattle.arz_world.specs.World.{WorldView, IsTorn, IsWorld, written, on_last, with_sent, with_received, fresh}

@@ -109,7 +109,8 @@ impl Tape {
         ensures ok { OnOk result (self.new ≡ noted self.old (Attached path.now)) }
         ensures err { OnErr result (self.new ≡ self.old) }
     {
-        self.calls.push(Call::Attached(Text::from_str(alloc, path)?))?;
+        self.calls
+            .push(Call::Attached(Text::from_str(alloc, path)?))?;
         Ok(())
     }
 
@@ -143,7 +144,8 @@ impl Tape {
         ensures err { OnErr result (self.new ≡ self.old) }
     {
         let talk = begun(alloc, server)?;
-        self.calls.push(Call::Connected(same_server(alloc, server)?))?;
+        self.calls
+            .push(Call::Connected(same_server(alloc, server)?))?;
         if let Err(e) = self.talks.push(talk) {
             self.calls.pop();
             return Err(e);
@@ -186,7 +188,7 @@ impl Tape {
 }
 
 // Copies what is there from an offset on, as much as there is room for.
-fn copied(file: &[u8], at: u64, into: &mut [u8]) -> usize
+pub(crate) fn copied(file: &[u8], at: u64, into: &mut [u8]) -> usize
     ensures { IsRead file.now at into.old into.new result }
 {
     if at >= file.len() as u64 {

@@ -5,6 +5,7 @@ ghost use Rattle.arz_world.specs.World.{WorldView, talks, DiskCall, LinkCall, Is
 
 use crate::Server;
 use arz_json::Bytes;
+use std::alloc::AllocError;
 
 /// Why a call of the disk was not done.
 #[derive(Clone, Copy, Debug, PartialEq, Eq)]
@@ -22,6 +23,26 @@ pub enum LinkFault {
     Failed,
     /// There was not enough memory.
     Memory,
+}
+
+impl From<AllocError> for DiskFault {
+    ghost use Rattle.arz_world.specs.declared.world.DiskFault.TheVariants.{Memory};
+
+    ghost from_gives = { λ _ e. e ≡ Memory };
+
+    fn from(_: AllocError) -> Self {
+        DiskFault::Memory
+    }
+}
+
+impl From<AllocError> for LinkFault {
+    ghost use Rattle.arz_world.specs.declared.world.LinkFault.TheVariants.{Memory};
+
+    ghost from_gives = { λ _ e. e ≡ Memory };
+
+    fn from(_: AllocError) -> Self {
+        LinkFault::Memory
+    }
 }
 
 /// What was said on one connection.

@@ -1,4 +1,4 @@
-use Rattle.std.proofs.Common.{◌≡◌, ◌+◌, ◌-◌, ℕ, List, length, refl, ap, arith}
+use Rattle.std.proofs.Common.{◌-◌, ℕ, List, ap}
 use Rattle.arz_world.specs.World.{with_sent}
 use Rattle.arz_world.specs.declared.world.Talk.{Talk}
 use Rattle.arz_world.proofs.Lasts.{changed_last, has_last, kept_last}
