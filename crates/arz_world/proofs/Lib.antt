@@ -1,3 +1,4 @@
+mod Crashes
 mod Lasts
 mod MemoryWorlds
 pub mod Moments

@@ -1,14 +1,14 @@
 // A world in memory, of which chosen calls fail.
 ghost use Rattle.std.specs.Prelude.{◌≡◌, ◌≢◌, ◌+◌, ◌≤◌, ◌<◌, ◌^◌, ◌&&◌, ◌==◌, ◌||◌, not, [], length, take, nat_lt, Ok, Err, IfOk, OnOk, OnErr, IsErrOf, IsTrue, true, false, option_map};
 ghost use Rattle.arz_world.specs.MemoryWorld.{WorldInMemory, called, call_fails, is_past as past, disk_failed, disk_refused, link_failed, link_refused, notes, connects, receives, DiskDoes, LinkDoes, is_unconnected, front};
-ghost use Rattle.arz_world.specs.Replay.{told_by, told_lawful, state};
-ghost use Rattle.arz_world.specs.World.{IsRead};
+ghost use Rattle.arz_world.specs.Replay.{told_by, told_lawful, state, crashed};
+ghost use Rattle.arz_world.specs.World.{IsRead, IsImage};
 ghost use Rattle.arz_world.specs.declared.tape.Call.TheVariants.{Attached, Wrote, Synced, Sent};
 
 use crate::calls::is_due;
 use crate::peers::Peers;
 use crate::tape::{Tape, copied};
-use crate::{DiskFault, LinkFault, Server, Talk, World};
+use crate::{DiskFault, LinkFault, Server, Talk, Torn, World};
 use arz_json::{Bytes, Many};
 use std::alloc::{AllocError, Global};
 use std::marker::Model;
@@ -109,6 +109,15 @@ impl MemoryWorld {
         ensures { result ≡ self.now.refused }
     {
         self.refused
+    }
+
+    /// What a crash leaves of the file after these calls, with the ranges that were written since the last sync
+    /// as `torn` says. It is one of the images of this moment.
+    pub fn crash(self, torn: Torn) -> Result<Bytes, AllocError>
+        ensures exact { IfOk result (λ image. image ≡ crashed torn (state self.tape)) }
+        ensures image { IfOk result (IsImage (told_by self.tape self.disk_faults self.link_faults)) }
+    {
+        self.tape.crash(self.alloc, torn)
     }
 
     // One more call is made. Whether it fails by its number.

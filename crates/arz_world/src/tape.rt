@@ -1,7 +1,8 @@
 // The record of a world in memory: the calls that changed something, and what they came to.
 ghost use Rattle.std.specs.Prelude.{◌≡◌, ◌+◌, ◌≤◌, ◌++◌, ◌||◌, ◌∷◌, [], ℕ, List, length, IfOk, OnOk, OnErr};
 ghost use Rattle.arz_world.specs.World.{IsRead, written, fresh, on_last, with_sent, with_received};
-ghost use Rattle.arz_world.specs.Replay.{state, noted};
+ghost use Rattle.arz_world.specs.Replay.{State, state, noted, start, step, replay, filled, crashed};
+ghost use Rattle.arz_world.specs.Crash.{IsDiskOf};
 ghost use Rattle.arz_world.specs.declared.tape.Call.TheVariants.{Attached, Wrote, Synced, Connected, Sent, Received};
 
 use crate::{Server, Talk};
@@ -185,6 +186,27 @@ impl Tape {
         }
         Ok(())
     }
+
+    /// What a crash leaves of the file.
+    pub(crate) fn crash(self, alloc: Global, torn: Torn) -> Result<Bytes, AllocError>
+        ensures { IfOk result (λ image. image ≡ crashed torn (state self)) }
+    {
+        let disk = replayed(alloc, &self.first, &self.calls)?;
+        let Disk {
+            durable,
+            unsynced,
+            file,
+        } = disk;
+        match torn {
+            Torn::Old => Ok(Bytes::from_std(durable)),
+            Torn::New => Ok(Bytes::from_std(file)),
+            Torn::Fill(byte) => {
+                let mut image = durable;
+                fill(alloc, &mut image, &unsynced, byte)?;
+                Ok(Bytes::from_std(image))
+            }
+        }
+    }
 }
 
 // Copies what is there from an offset on, as much as there is room for.
@@ -308,5 +330,81 @@ fn add_received(
     }
     talk.closed = either(talk.closed, closes);
     talks.swap_item(last, &mut talk);
+    Ok(())
+}
+
+// A disk as a replay of its calls leaves it.
+#[derive(Drop)]
+pub(crate) struct Disk {
+    pub(crate) durable: Vec<u8>,
+    pub(crate) unsynced: Vec<Span>,
+    pub(crate) file: Vec<u8>,
+}
+
+impl Disk {
+    fn take(&mut self, call: &Call) -> Result<(), AllocError>
+        ensures { OnOk result ((s : State) → IsDiskOf self.old s → IsDiskOf self.new (step s call.now)) }
+    {
+        match call {
+            Call::Wrote(at, bytes) => {
+                let at = (*at).min(self.file.len() as u64);
+                self.write(at, bytes.as_slice())
+            }
+            Call::Synced => self.sync(),
+            _ => Ok(()),
+        }
+    }
+
+    fn write(&mut self, at: u64, bytes: &[u8]) -> Result<(), AllocError>
+        requires { at ≤ length self.old.file.items }
+        ensures durable { OnOk result (self.new.durable.items ≡ self.old.durable.items) }
+        ensures unsynced { OnOk result (self.new.unsynced.items ≡ self.old.unsynced.items ++ record { at = at; count = length bytes.now } ∷ []) }
+        ensures file { OnOk result (self.new.file.items ≡ written at bytes.now self.old.file.items) }
+    {
+        overwrite(&mut self.file, at as usize, bytes)?;
+        self.unsynced.push(Span {
+            at,
+            count: bytes.len() as u64,
+        })?;
+        Ok(())
+    }
+
+    fn sync(&mut self) -> Result<(), AllocError>
+        ensures durable { OnOk result (self.new.durable.items ≡ self.old.file.items) }
+        ensures unsynced { OnOk result (self.new.unsynced.items ≡ []) }
+        ensures file { OnOk result (self.new.file.items ≡ self.old.file.items) }
+    {
+        self.durable.clear();
+        self.durable.extend_from_slice(&self.file)?;
+        self.unsynced.clear();
+        Ok(())
+    }
+}
+
+// The disk after these calls, one after another.
+fn replayed(alloc: Global, first: &[u8], calls: &[Call]) -> Result<Disk, AllocError>
+    ensures { IfOk result (λ d. IsDiskOf d (replay (start first.now) calls.now)) }
+{
+    let mut disk = Disk {
+        durable: first.to_vec(alloc)?,
+        unsynced: Vec::new(alloc),
+        file: first.to_vec(alloc)?,
+    };
+    for call in calls {
+        disk.take(call)?;
+    }
+    Ok(disk)
+}
+
+// Fills ranges with one byte.
+fn fill(alloc: Global, image: &mut Vec<u8>, spans: &[Span], byte: u8) -> Result<(), AllocError>
+    ensures { OnOk result (image.new.items ≡ filled byte spans.now image.old.items) }
+{
+    for span in spans {
+        let mut bytes = Vec::new(alloc);
+        bytes.resize(span.count as usize, byte)?;
+        let at = span.at.min(image.len() as u64);
+        overwrite(image, at as usize, &bytes)?;
+    }
     Ok(())
 }
