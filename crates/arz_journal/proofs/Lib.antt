@@ -1,0 +1,5 @@
+mod Appended
+mod Firsts
+mod Puts
+mod Staged
+mod Walks

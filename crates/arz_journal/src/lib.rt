@@ -1,0 +1,7 @@
+//! A log of entries in a file, in which one append is atomic at every moment.
+#![tactic(auto)]
+
+mod block;
+mod log;
+
+pub use log::{JournalFault, Log};
