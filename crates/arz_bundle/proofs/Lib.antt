@@ -2,6 +2,7 @@ pub mod Expressions
 pub mod FormFacts
 pub mod FormPaths
 pub mod KindFacts
+pub mod LoadingLaws
 pub mod Noting
 pub mod RuleFacts
 pub mod Stages

@@ -5,6 +5,7 @@ pub mod FormTexts
 pub mod FormValues
 pub mod FormWords
 pub mod Forms
+pub mod Laws
 pub mod Loading
 pub mod Printable
 pub mod Replies

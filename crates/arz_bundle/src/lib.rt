@@ -5,6 +5,7 @@ mod fault;
 mod files;
 mod forms;
 mod given;
+pub mod laws;
 mod loading;
 mod rules;
 mod setup;

@@ -1,1 +1,2 @@
+pub mod EndsOver
 mod Mocking

@@ -1,6 +1,7 @@
 //! Sessions: runs of a workflow over given replies.
 #![tactic(auto)]
 
+pub mod laws;
 mod over_replies;
 mod session;
 

@@ -2,5 +2,6 @@ pub mod Fronts
 pub mod Loaded
 pub mod Once
 pub mod OneEnding
+pub mod EndingOrRun
 pub mod Printed
 pub mod RowsOf

@@ -1,8 +1,8 @@
--- Over files that tell what they hold, and where no read failed, files give one result.
+-- Over files that tell what they hold, and of which a read failed only where no file is there, files give one result.
 use Rattle.std.proofs.Common.{◌≡◌, ◌≢◌, ◌<◌, ◌≤◌, inl, inr, ℕ, List, length, codes, Option, None, Some, Result, Err, refl, sym, ap, ◌∙◌, subst, arith}
 use Rattle.arz_json.specs.declared.Json.{Json}
 use Rattle.arz_json.proofs.Readings.{Reads-unique}
-use Rattle.arz_world.specs.Outside.{FilesView, ReadsAs, Told}
+use Rattle.arz_world.specs.Outside.{FilesView, ReadsAs, Rose, Told}
 use Rattle.arz_json.specs.declared.Refusal.{Refusal}
 use Rattle.arz_rules.specs.Phases.{Rule}
 use Rattle.arz_bundle.specs.declared.fault.LoadFault.{LoadFault}
@@ -25,6 +25,10 @@ same_bytes (Some (Some file)) limit a b tells p q = p ∙ sym q
 tells-one : {A : Type 0} (o : Option Refusal) (Next : Result A LoadFault → Type 0) → IsOne Next → IsOne (Tells o Next)
 tells-one (Some r) Next one x y mx my p q = p ∙ sym q
 tells-one None Next one x y mx my p q = one x y mx my p q
+
+-- a file that was read is there, so no read of it failed
+not-there : (before now : FilesView) (path : List ℕ) → IsSteady before now → (bytes : List ℕ) → ReadsAs (before.told path) file_limit bytes → Rose (before.faults path) (now.faults path) → ⊥
+not-there before now path steady bytes reads rose = subst (λ t. ReadsAs t file_limit bytes) (steady.missing path rose) reads
 
 -- no file is too large and small enough
 not-both : (n : ℕ) → n ≤ file_limit → file_limit < n → ⊥
@@ -56,9 +60,11 @@ module _ {A : Type 0} (label : List ℕ) (rules : Json → List Rule) (Next : Js
   reading-one before now path steady x y mx my (inl (bytes, reads, judged)) (inl (bytes', reads', judged')) =
       let same : bytes' ≡ bytes = same_bytes (before.told path) file_limit bytes' bytes (steady.told path) reads' reads in
       judged-one bytes x y mx my judged (subst (λ b. Judged label rules Next b y) same judged')
-  reading-one before now path steady x y mx my (inl a) (inr (inl b)) = absurd (steady.quiet path b.0)
+  reading-one before now path steady x y mx my (inl a) (inr (inl b)) = absurd (not-there before now path steady a.0 a.1 b.0)
   reading-one before now path steady x y mx my (inl a) (inr (inr b)) = absurd (my b)
-  reading-one before now path steady x y mx my (inr (inl a)) b = absurd (steady.quiet path a.0)
+  reading-one before now path steady x y mx my (inr (inl a)) (inl b) = absurd (not-there before now path steady b.0 b.1 a.0)
+  reading-one before now path steady x y mx my (inr (inl a)) (inr (inl b)) = a.1 ∙ sym b.1
+  reading-one before now path steady x y mx my (inr (inl a)) (inr (inr b)) = absurd (my b)
   reading-one before now path steady x y mx my (inr (inr a)) b = absurd (mx a)
 
 module _ (before now : FilesView) (steady : IsSteady before now) where

@@ -219,6 +219,7 @@ exactly Came answer e answered one = record {
   completed = λ s outputs came is. answered ∙ ap status (one (Played s) came) ∙ ap end_status is;
   broke = λ s outputs came is. answered ∙ ap status (one (Played s) came) ∙ ap end_status is;
   words = λ came. answered ∙ ap status (one Words came);
+  file = λ path came. answered ∙ ap status (one (File path) came);
   refused = λ refusal came. answered ∙ ap status (one (Refused refusal) came);
   budget = λ s limit came is. answered ∙ ap status (one (Played s) came) ∙ ap end_status is;
   stuck = λ s cause at came is. answered ∙ ap status (one (Played s) came) ∙ ap end_status is;

@@ -1,11 +1,28 @@
 -- Statements of the laws of endings.
-use Rattle.std.specs.Prelude.{◌≡◌}
+use Rattle.std.specs.Prelude.{◌≡◌, ◌⊎◌, List}
+use Rattle.std.specs.declared.result.Result.TheVariants.{Ok}
 use Rattle.arz_world.specs.Outside.{FilesView}
+use Rattle.arz_world.specs.declared.Reply.{Reply}
+use Rattle.arz_flow.specs.declared.bundle.Bundle.{Bundle}
+use Rattle.arz_bundle.specs.Laws.{MissingFail}
+use Rattle.arz_bundle.specs.Loading.{Loads, Gives_replies}
+use Rattle.arz_session.specs.Laws.{HasEndOver}
 use Rattle.arz_top.specs.declared.words.Command.{Command}
+use Rattle.arz_top.specs.declared.words.Command.TheVariants.{Mock, Check, Unknown}
 use Rattle.arz_top.specs.declared.ending.Ending.{Ending}
 use Rattle.arz_top.specs.Endings.{Comes}
 use Rattle.arz_top.specs.Steady.{IsSteady}
 
--- Over files that tell what they hold, and no read of which failed, the words come to no two endings.
+-- Over files that tell what they hold, and of which a read failed only where no file is there, the words come to no two endings.
 abbrev pub OneEnding : Type 0
 OneEnding = (before now : FilesView) (command : Command) (e e' : Ending) → IsSteady before now → Comes before now command e → Comes before now command e' → e ≡ e'
+
+-- the words are mock, and the files give a bundle and replies, over which the execution has an end
+abbrev pub IsRun : (before now : FilesView) → Command → Type 0
+IsRun before now (Mock setup replies) = (bundle : Bundle) × (given : List Reply) × Loads before now setup (Ok bundle) × Gives_replies before now replies (Ok given) × HasEndOver bundle given
+IsRun before now (Check setup) = ⊥
+IsRun before now Unknown = ⊥
+
+-- Whatever the files hold, the words come to an ending, or they are mock and the execution has an end.
+abbrev pub EndingOrRun : Type 0
+EndingOrRun = (before now : FilesView) (command : Command) → MissingFail before now → ((e : Ending) × Comes before now command e) ⊎ IsRun before now command

@@ -45,5 +45,5 @@ pub record Rows (files files_now : FilesView) (command : Command) (sink sink_now
   pub whole : answer ≢ 10 → answer ≢ 11 → (ending : Ending) × Comes files files_now command ending × (answer ≡ status ending) × Gains sink.held sink_now.held (λ added. added ≡ report ending)
   -- where the sink didn't fail, only want of memory keeps the report away
   pub succeeds : (Rose sink.faults sink_now.faults → ⊥) → answer ≢ 11 → (ending : Ending) × Comes files files_now command ending × (answer ≡ status ending)
-  -- over files that tell what they hold, where no read failed, nor the sink, and memory sufficed, each answer stands exactly where the words come to its ending
+  -- over files that tell what they hold, where no read of a file that is there failed, nor the sink, and memory sufficed, each answer stands exactly where the words come to its ending
   pub exact : IsSteady files files_now → (Rose sink.faults sink_now.faults → ⊥) → answer ≢ 11 → Exact (Comes files files_now command) answer

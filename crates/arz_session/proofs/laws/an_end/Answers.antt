@@ -1,0 +1,5 @@
+use Rattle.arz_session.proofs.EndsOver.{ends_over}
+use Rattle.arz_session.proofs.laws.an_end.Goals as goal
+
+pub returns : goal.returns
+returns c = ends_over
