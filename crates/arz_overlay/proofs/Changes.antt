@@ -1,13 +1,12 @@
 -- A child that changes: what the tree is then, and how many bytes it has.
-use Rattle.std.proofs.Common.{◌≡◌, ℕ, zero, suc, ◌+◌, ◌<◌, List, [], ◌∷◌, map, set, length, Bool, true, false, cond, Option, Some, None, Result, Ok, Err, length-set, refl, sym, ap, ap₂, ◌∙◌, arith}
+use Rattle.std.proofs.Common.{◌≡◌, ℕ, zero, suc, ◌+◌, ◌<◌, List, [], ◌∷◌, map, set, length, Bool, true, false, cond, Some, None, Result, Ok, length-set, refl, sym, ap, ◌∙◌, arith}
 use Rattle.std.specs.Prelude.{slice_get, nat_lt}
 use Rattle.std.proofs.lemmas.Bool.{ltb-true}
 use Rattle.arz_overlay.proofs.Lists.{Some_inj}
 use Rattle.arz_json.specs.Answer.{◌>>=◌}
-use Rattle.arz_json.specs.Put.{children_in, children, place_of, set_value, set_child_in, set_child}
+use Rattle.arz_json.specs.Put.{children_in, children, set_value, set_child_in, set_child}
 use Rattle.arz_json.specs.declared.tree.Json.{Json, out-Json}
 use Rattle.arz_json.specs.declared.tree.Json.TheOpen.{Json-F}
-use Rattle.arz_json.specs.declared.tree.Json.TheVariants.{List as ListOf, Object}
 use Rattle.arz_json.specs.declared.tree.Member.{Member}
 use Rattle.arz_json.specs.declared.place.Token.{Token}
 use Rattle.arz_json.specs.declared.place.Token.TheVariants.{Name, Index}
@@ -15,8 +14,8 @@ use Rattle.arz_json.proofs.Trades.{is_list, is_object}
 use Rattle.arz_json.proofs.Places.{place_within}
 use Rattle.arz_wire.specs.Spelling.{number}
 use Rattle.arz_wire.proofs.Measures.{list_length, object_length}
-use Rattle.arz_overlay.specs.Children.{item_at, member_at, child_in, child_of, changed, changed_value, changed_child}
-use Rattle.arz_overlay.specs.Weight.{weight, items_weight, members_weight, name_weight}
+use Rattle.arz_overlay.specs.Children.{child_in, child_of, changed, changed_value, changed_child}
+use Rattle.arz_overlay.specs.Weight.{weight, items_weight, members_weight}
 use Rattle.arz_overlay.proofs.Weights.{items_weight-cons, members_weight-cons}
 
 item_within : (i n k : ℕ) (b : Bool) → nat_lt i n ≡ b → cond b (Some i) None ≡ Some k → k < n

@@ -1,20 +1,20 @@
 -- What is merged into a tree in form is in form.
-use Rattle.std.proofs.Common.{◌≡◌, ℕ, ℤ, suc, List, [], ◌∷◌, ◌++◌, map, Bool, true, false, ◌&&◌, Option, Some, None, refl, sym, ap, ap₂, ◌∙◌, subst, rules}
+use Rattle.std.proofs.Common.{◌≡◌, ℕ, ℤ, List, [], ◌∷◌, ◌++◌, map, Bool, true, false, ◌&&◌, Option, Some, None, refl, sym, ap, ◌∙◌, subst, rules}
 use Rattle.std.specs.declared.cmp.Ordering.{Ordering}
 use Rattle.std.specs.declared.cmp.Ordering.TheVariants.{Less, Equal, Greater}
 use Rattle.std.specs.Ordering.{nat_cmp, is_lt, ordering_reverse}
 use Rattle.std.specs.Cmp.Lexicographic.{slice_cmp}
 use Rattle.std.proofs.lemmas.Cmp.{nat_list_cmp_total}
 use Rattle.std.proofs.lemmas.Map.Lookups.{exact_bytes}
-use Rattle.arz_json.specs.Tree.{has_form, form_step, all_true, are_ordered, is_below_first, is_in_range}
+use Rattle.arz_json.specs.Tree.{has_form, form_step, all_true, are_ordered, is_below_first}
 use Rattle.arz_json.specs.declared.tree.Json.{Json, out-Json, the_lemmas}
 use Rattle.arz_json.specs.declared.tree.Json.TheOpen.{Json-F}
-use Rattle.arz_json.specs.declared.tree.Json.TheVariants.{Null, Flag, Int, Text, List as ListOf, Object, Opaque}
+use Rattle.arz_json.specs.declared.tree.Json.TheVariants.{Int, List as ListOf, Object}
 use Rattle.arz_json.specs.declared.tree.Member.{Member}
-use Rattle.arz_json.proofs.Layers.{folded-List, folded-Object, values_of-map, members_form}
+use Rattle.arz_json.proofs.Layers.{folded-List, folded-Object, values_of-map}
 use Rattle.arz_json.proofs.Trades.{is_list, is_object}
 use Rattle.arz_json.proofs.Induction.{Each, EachValue, Levels, induction}
-use Rattle.arz_overlay.specs.Merging.{Merge, merge_step, merged, merge_of, member, with_member, with_member_by, with_members, added_items, items_in, members_in, items_there, members_there}
+use Rattle.arz_overlay.specs.Merging.{Merge, merged, merge_of, with_member, with_member_by, with_members, added_items, items_in, members_in, items_there, members_there}
 use Rattle.arz_overlay.proofs.MergedLevels.{merged_list, merged_object}
 use Rattle.arz_overlay.proofs.Merges.{form_of}
 use Rattle.arz_overlay.proofs.Lists.{left, right}

@@ -1,5 +1,5 @@
 -- Places by the children that they lead to.
-use Rattle.std.proofs.Common.{◌≡◌, inl, inr, ℕ, zero, suc, ◌+◌, ◌<◌, ◌==◌, List, [], ◌∷◌, ◌++◌, map, length, get_or, set, Bool, true, false, cond, refl, sym, ap, ap₂, ◌∙◌, arith, append-nil, add-one, take, Option, Some, None, option_map, eq-eqb, ne_eqb}
+use Rattle.std.proofs.Common.{◌≡◌, inl, inr, ℕ, zero, suc, ◌+◌, ◌<◌, ◌==◌, List, [], ◌∷◌, ◌++◌, map, length, get_or, set, Bool, true, false, cond, refl, sym, ap, ◌∙◌, append-nil, add-one, take, Option, Some, None, option_map, eq-eqb, ne_eqb}
 use Rattle.std.proofs.lemmas.Bool.{cases_Bool, eqb-true, eqb-false}
 use Rattle.std.proofs.lemmas.List.{get_or-set_same, get_or-set_other, map-append}
 use Rattle.std.proofs.Math.Seq.{take-suc}
@@ -16,10 +16,9 @@ use Rattle.arz_overlay.proofs.Lists.{Some_inj}
 use Rattle.std.specs.declared.vec.Vec.{Vec}
 use Rattle.std.specs.declared.alloc.Global.{Global}
 use Rattle.arz_json.specs.declared.place.Token.{Token}
-use Rattle.arz_json.specs.declared.place.Token.TheVariants.{Name, Index}
 use Rattle.arz_overlay.specs.declared.groups.Way.{Way}
-use Rattle.arz_overlay.specs.Removal.{Places, below, below_in, same_token}
-use Rattle.arz_overlay.specs.Groups.{tokens_of, ways_seen, group_seen, groups_seen}
+use Rattle.arz_overlay.specs.Removal.{Places, below, same_token}
+use Rattle.arz_overlay.specs.Groups.{tokens_of, ways_seen, groups_seen}
 
 get_out : (gs : List Places) (k : ℕ) → get_or (gs ++ [] ∷ []) k [] ≡ get_or gs k []
 get_out [] zero = refl

@@ -1,8 +1,8 @@
 -- What is left of a tree, a level and a child at a time.
-use Rattle.std.proofs.Common.{◌≡◌, ℕ, zero, suc, ◌+◌, ◌==◌, length, drop, arith, List, [], ◌∷◌, ◌++◌, map, Bool, true, false, cond, Option, Some, None, option_map, refl, sym, ap, ap₂, ◌∙◌, rules}
+use Rattle.std.proofs.Common.{◌≡◌, ℕ, zero, suc, ◌+◌, ◌==◌, length, drop, arith, List, [], ◌∷◌, ◌++◌, Bool, true, false, cond, Some, None, option_map, refl, ap, ap₂, ◌∙◌, rules}
 use Rattle.std.specs.Option.{option_to_list}
 use Rattle.arz_json.specs.declared.tree.Json.{Json, the_lemmas}
-use Rattle.arz_json.specs.declared.tree.Json.TheVariants.{Null, Flag, Int, Text, List as ListOf, Object, Opaque}
+use Rattle.arz_json.specs.declared.tree.Json.TheVariants.{List as ListOf, Object}
 use Rattle.arz_json.specs.declared.tree.Member.{Member}
 use Rattle.arz_json.specs.declared.place.Token.TheVariants.{Name, Index}
 use Rattle.arz_json.proofs.Layers.{folded-List, folded-Object}
@@ -14,7 +14,7 @@ use Rattle.arz_overlay.specs.Groups.{ways_seen}
 use Rattle.arz_overlay.proofs.Forms.{items_form, values_form}
 use Rattle.arz_overlay.proofs.Lists.{right}
 use Rattle.arz_overlay.specs.Merging.{member}
-use Rattle.arz_overlay.specs.Removal.{Places, Removal, below, has_end, removal_step, without, kept_items, kept_members, child_kept, member_kept, items_kept, members_kept}
+use Rattle.arz_overlay.specs.Removal.{Places, Removal, below, has_end, removal_step, without, child_kept, member_kept, items_kept, members_kept}
 
 pub without_list : (js : List Json) (ps : Places) → without (ListOf js) ps ≡ ListOf (items_kept ps 0 js)
 without_list js ps = ap (λ (f : Removal). f ps) (folded-List Removal removal_step js)

@@ -1,6 +1,6 @@
 -- How many bytes there are in lists.
 use Rattle.std.specs.Option.{option_to_list}
-use Rattle.std.proofs.Common.{◌≡◌, ◌≤◌, ℕ, zero, suc, drop, Option, Some, None, refl, ◌+◌, List, [], ◌∷◌, ◌++◌, length, ap, ◌∙◌, arith, length-append}
+use Rattle.std.proofs.Common.{◌≡◌, ◌≤◌, ℕ, zero, suc, drop, Option, Some, None, refl, ◌+◌, List, [], ◌∷◌, ◌++◌, arith, length-append}
 use Rattle.arz_json.specs.declared.tree.Json.{Json}
 use Rattle.arz_json.specs.declared.tree.Member.{Member}
 use Rattle.arz_wire.specs.Spelling.{spelling, spellings, counted, member_spellings}

@@ -1,6 +1,5 @@
 -- For private clauses: places as the code holds them.
-use Rattle.std.specs.Prelude.{ℕ, List, [], map, Bool}
-use Rattle.std.specs.List.{list_any}
+use Rattle.std.specs.Prelude.{List, map}
 use Rattle.std.specs.declared.vec.Vec.{Vec}
 use Rattle.std.specs.declared.alloc.Global.{Global}
 use Rattle.arz_json.specs.declared.place.Token.{Token}

@@ -1,4 +1,4 @@
-use Rattle.std.proofs.Common.{◌≡◌, ◌∷◌, set, Ok, refl, sym, ap, ◌∙◌, length, arith, length-set, rules}
+use Rattle.std.proofs.Common.{◌≡◌, ◌∷◌, set, Ok, refl, sym, ap, ◌∙◌, length, arith, length-set}
 use Rattle.arz_json.specs.Answer.{◌>>=◌}
 use Rattle.arz_json.specs.Tree.{has_form}
 use Rattle.arz_json.specs.Put.{children, set_child}

@@ -1,7 +1,7 @@
-use Rattle.std.proofs.Common.{sym, ap, ◌∙◌, ◌++◌, ◌∷◌, [], refl}
+use Rattle.std.proofs.Common.{sym, ap, ◌∙◌, ◌∷◌, [], refl}
 use Rattle.arz_json.specs.Tree.{has_form}
 use Rattle.arz_json.specs.declared.tree.Json.TheVariants.{List as ListOf}
-use Rattle.arz_overlay.proofs.Forms.{merged_form, list_form, items_form, items_form-append, both}
+use Rattle.arz_overlay.proofs.Forms.{merged_form, list_form, items_form-append, both}
 use Rattle.arz_overlay.proofs.changing.updated.Goals as goal
 
 pub returns-in-List-clause-form : goal.returns-in-List-clause-form

@@ -1,7 +1,6 @@
-use Rattle.std.proofs.Common.{◌≡◌, ◌++◌, ◌∷◌, [], cond, get_or, map, sym, ap, ◌∙◌, arith, append-nil}
+use Rattle.std.proofs.Common.{◌≡◌, ◌++◌, ◌∷◌, [], cond, get_or, sym, ap, ◌∙◌, arith, append-nil}
 use Rattle.std.proofs.lemmas.List.{length-map}
 use Rattle.std.proofs.lemmas.Result.{on_ok_weaker}
-use Rattle.arz_json.specs.Put.{place_of}
 use Rattle.arz_json.specs.declared.place.Token.TheVariants.{Name}
 use Rattle.arz_json.proofs.Places.{place_within}
 use Rattle.arz_overlay.specs.Removal.{below}

@@ -1,4 +1,4 @@
-use Rattle.std.proofs.Common.{◌≡◌, ℕ, [], ◌∷◌, ◌++◌, get_or, take, sym, ap, ◌∙◌, arith, add-one}
+use Rattle.std.proofs.Common.{[], ◌∷◌, ◌++◌, sym, ap, ◌∙◌, arith}
 use Rattle.arz_json.specs.declared.place.Token.TheVariants.{Index}
 use Rattle.arz_overlay.specs.Removal.{below}
 use Rattle.arz_overlay.specs.Groups.{tokens_of}

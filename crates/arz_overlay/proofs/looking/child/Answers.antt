@@ -1,8 +1,7 @@
-use Rattle.std.proofs.Common.{◌≡◌, ℕ, zero, suc, List, [], ◌∷◌, map, option_map, Option, refl, sym, ap, ◌∙◌}
+use Rattle.std.proofs.Common.{◌≡◌, ℕ, zero, suc, List, [], ◌∷◌, map, option_map, refl, sym, ap, ◌∙◌}
 use Rattle.std.specs.Prelude.{slice_get}
 use Rattle.arz_json.specs.Put.{children_in, children}
-use Rattle.arz_json.specs.declared.tree.Json.{Json}
-use Rattle.arz_json.specs.declared.tree.Json.TheViews.{out-Json, outs-Object}
+use Rattle.arz_json.specs.declared.tree.Json.TheViews.{outs-Object}
 use Rattle.arz_json.specs.declared.tree.Member.{Member}
 use Rattle.arz_overlay.proofs.looking.child.Goals as goal
 

@@ -1,12 +1,12 @@
-use Rattle.std.proofs.Common.{◌≡◌, [], ◌∷◌, ◌++◌, ◌+◌, refl, ap₂, drop, map, length, true, sym, ap, ◌∙◌, subst, arith, rules, append_assoc}
+use Rattle.std.proofs.Common.{[], ◌∷◌, ◌++◌, ◌+◌, refl, ap₂, drop, map, length, sym, ap, ◌∙◌, subst, arith, rules, append_assoc}
 use Rattle.arz_json.specs.Tree.{has_form, are_ordered, all_true, form_step}
 use Rattle.arz_json.specs.declared.tree.Json.{the_lemmas}
-use Rattle.arz_json.specs.declared.tree.Json.TheVariants.{List as ListOf, Object}
+use Rattle.arz_json.specs.declared.tree.Json.TheVariants.{List as ListOf}
 use Rattle.arz_json.proofs.Layers.{members_form, folded-Object}
 use Rattle.arz_wire.specs.Spelling.{number}
 use Rattle.arz_wire.proofs.Measures.{list_length, object_length}
 use Rattle.arz_overlay.specs.Merging.{added_items, merged, merge_of, with_members}
-use Rattle.arz_overlay.specs.Weight.{weight, items_weight, members_weight}
+use Rattle.arz_overlay.specs.Weight.{items_weight, members_weight}
 use Rattle.arz_overlay.proofs.Weights.{items_weight-push}
 use Rattle.arz_overlay.proofs.Merges.{AreReady, AreBefore, Put, form_of, put_gives, put_ready, put_weighs}
 use Rattle.arz_overlay.proofs.MergedLevels.{merged_list}

@@ -1,4 +1,4 @@
-use Rattle.std.proofs.Common.{◌≡◌, ◌≤◌, ◌<◌, ◌++◌, ◌∷◌, ◌+◌, [], Some, drop, get_or, length, sym, ap, ap₂, ◌∙◌, arith, append_assoc, add-one}
+use Rattle.std.proofs.Common.{◌≡◌, ◌<◌, ◌++◌, ◌∷◌, ◌+◌, [], Some, drop, get_or, length, sym, ap, ◌∙◌, arith, append_assoc, add-one}
 use Rattle.std.specs.Option.{option_to_list}
 use Rattle.std.proofs.lemmas.List.{get_or-map}
 use Rattle.arz_json.specs.Tree.{has_form}
@@ -6,7 +6,7 @@ use Rattle.arz_json.specs.declared.place.Token.TheVariants.{Name, Index}
 use Rattle.arz_wire.specs.Spelling.{number}
 use Rattle.arz_wire.proofs.Measures.{list_length, object_length}
 use Rattle.arz_overlay.specs.Removal.{below, child_kept, member_kept, items_kept, members_kept}
-use Rattle.arz_overlay.specs.Groups.{ways_seen, group_seen, groups_seen}
+use Rattle.arz_overlay.specs.Groups.{ways_seen, group_seen}
 use Rattle.arz_overlay.specs.Weight.{weight, items_weight, members_weight}
 use Rattle.arz_overlay.proofs.Forms.{items_form, values_form, list_form, object_form}
 use Rattle.arz_overlay.proofs.Lists.{left, right, drop_tail, drop_head}

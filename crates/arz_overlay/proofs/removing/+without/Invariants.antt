@@ -1,5 +1,4 @@
-use Rattle.std.proofs.Common.{◌≡◌, ◌+◌, ◌*◌, ◌++◌, ◌∷◌, [], length, map, drop, true}
-use Rattle.arz_json.specs.Tree.{has_form, all_true}
+use Rattle.std.proofs.Common.{◌≡◌, ◌+◌, ◌*◌, ◌++◌, ◌∷◌, [], drop}
 use Rattle.arz_overlay.specs.Removal.{items_kept, members_kept}
 use Rattle.arz_overlay.specs.Groups.{ways_seen}
 use Rattle.arz_overlay.specs.Weight.{Tallies, weight, items_weight, members_weight}
