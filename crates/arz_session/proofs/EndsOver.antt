@@ -43,8 +43,8 @@ module _ (b : Bundle) (valid : IsValid b) where
       let sending = subst (λ x. Rests b m.facts m.step x (answers used)) is at.rests in
       let n = after m sending.step q y in
       let told = taken m b (answers used) at n q y (Replied y) (next_fact b m.facts sending.step q y) is
-          (λ step there. ap (λ s. next_fact b m.facts s q y) (same_Some sending.step step (sym sending.there ∙ there)))
-          refl refl refl refl (slice_get_within (steps_of b b.workflow) m.step sending.step sending.there) refl in
+      (λ step there. ap (λ s. next_fact b m.facts s q y) (same_Some sending.step step (sym sending.there ∙ there)))
+      refl refl refl refl (slice_get_within (steps_of b b.workflow) m.step sending.step sending.there) refl in
       subst (HasEndOver b) (append_assoc used (y ∷ []) left) (ends left (used ++ y ∷ []) n (at_more n b used y told) n.rest refl)
 
   begins : (o : Option Json) → slice_get (steps_of b b.workflow) 0 ≡ o → (m : Standing) × At m b []
