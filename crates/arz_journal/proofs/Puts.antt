@@ -99,5 +99,5 @@ module _ (place : ℕ) (bytes : List ℕ) (entry : Entry) (w0 : WorldView) (can 
                   closed = λ ended. omega arith;
                 };
                 gives = ap recovered file_now ∙ recovered_closed (can.at.front ++ block can.payload) (list ++ entry ∷ []) 0 rest front_now (omega arith)
-                ∙ ap (λ (r : Recovered). whole (r.entries ++ entry ∷ [])) (sym gives);
+                    ∙ ap (λ (r : Recovered). whole (r.entries ++ entry ∷ [])) (sym gives);
               }

@@ -105,11 +105,7 @@ pub(crate) fn put_first<W: World>(world: &mut W) -> Result<(), DiskFault>
 }
 
 /// Puts a block at a closed gate: the bytes behind the gate, a sync, the open gate, a sync.
-pub(crate) fn put_block<W: World>(
-    world: &mut W,
-    place: u64,
-    bytes: &[u8],
-) -> Result<(), DiskFault>
+pub(crate) fn put_block<W: World>(world: &mut W, place: u64, bytes: &[u8]) -> Result<(), DiskFault>
     requires place { place + 1 < 2 ^ 64 }
     requires inside { IsTrue (W.told world.old).tells → place < length (W.told world.old).file }
 

@@ -75,8 +75,14 @@ impl Model for Log {
 
     ghost Value = { LogView };
 
-    ghost view = { λ l. record { place = l.place; room = length l.buffer.items; is_new = l.is_new; is_open = l.is_open;
-        is_ended = l.is_ended; is_spent = l.is_spent } };
+    ghost view = { λ l. record {
+      place = l.place;
+      room = length l.buffer.items;
+      is_new = l.is_new;
+      is_open = l.is_open;
+      is_ended = l.is_ended;
+      is_spent = l.is_spent;
+    } };
 }
 
 impl Log {
