@@ -1,6 +1,6 @@
 -- A log that appends stands on.
-use Rattle.std.proofs.Common.{◌≡◌, inl, inr, ℕ, ◌+◌, ◌<◌, ◌^◌, Bool, true, false, List, [], ◌∷◌, ◌++◌, length, Ok, IsTrue, refl, sym, ◌∙◌, ap, subst, arith, length-append}
-use Rattle.arz_wire.specs.Entries.{entry_of, entry_spelling, IsEntry}
+use Rattle.std.proofs.Common.{◌≡◌, inl, ℕ, ◌+◌, ◌<◌, ◌^◌, Bool, true, false, List, [], ◌∷◌, ◌++◌, length, Ok, IsTrue, refl, sym, ◌∙◌, ap, subst, arith, length-append}
+use Rattle.arz_wire.specs.Entries.{entry_of}
 use Rattle.arz_wire.proofs.Entered.{entry_again}
 use Rattle.arz_wire.specs.declared.entry.Entry.{Entry}
 use Rattle.arz_wire.specs.declared.entry.Mark.{Mark}
@@ -9,7 +9,7 @@ use Rattle.arz_world.specs.Moments.{EachMoment}
 use Rattle.arz_world.proofs.Moments.{still, if_told, later_refl}
 use Rattle.arz_journal.specs.Journal.{recovered, payload, counted, Spells, IsBeforeOrAfter}
 use Rattle.arz_journal.proofs.Walks.{length-counted}
-use Rattle.arz_journal.specs.Logs.{LogView, IsAt, Stands, Ready, CanPut, IsPut}
+use Rattle.arz_journal.specs.Logs.{LogView, IsAt, Stands, CanPut, IsPut}
 
 spelt : (mark : Mark) (rest : List ℕ) (entry : Entry) → Spells mark rest entry → length (payload mark rest) < 2 ^ 32 → entry_of (payload mark rest) ≡ Ok entry
 spelt mark rest entry spells small = ap entry_of spells.1 ∙ entry_again entry spells.0 (omega (arith, ap length spells.1, small))

@@ -1,8 +1,7 @@
 -- What a crash leaves where a journal is made.
-use Rattle.std.proofs.Common.{◌≡◌, ◌⊎◌, inl, inr, ℕ, ◌+◌, ◌≤◌, ◌<◌, Bool, true, false, List, [], ◌∷◌, ◌++◌, length, take, drop, refl, sym, ◌∙◌, ap, subst, arith, length-append}
+use Rattle.std.proofs.Common.{◌≡◌, inl, inr, ℕ, ◌≤◌, ◌<◌, Bool, true, false, List, [], ◌∷◌, ◌++◌, length, refl, sym, ◌∙◌, ap, subst, arith, length-append}
 use Rattle.std.proofs.lemmas.List.{append-nil, drop_all}
-use Rattle.arz_wire.specs.declared.entry.Entry.{Entry}
-use Rattle.arz_world.specs.World.{WorldView, talks, IsImage, IsStable, NoNewImage, Later, DiskCall, IsTorn, AreTornBy, written}
+use Rattle.arz_world.specs.World.{WorldView, talks, IsImage, IsStable, NoNewImage, DiskCall, AreTornBy, written}
 use Rattle.arz_world.specs.declared.world.Talk.{Talk}
 use Rattle.arz_world.specs.Moments.{EachMoment}
 use Rattle.arz_world.proofs.Moments.{call, goes_on, later_trans}

@@ -1,13 +1,13 @@
 -- The four calls of an append.
-use Rattle.std.proofs.Common.{◌≡◌, ◌≢◌, ◌⊎◌, inl, inr, ℕ, ◌+◌, ◌≤◌, ◌<◌, List, [], ◌∷◌, ◌++◌, length, drop, refl, sym, ◌∙◌, ap, subst, arith, length-append}
+use Rattle.std.proofs.Common.{◌≡◌, ◌≢◌, ◌⊎◌, inl, inr, ℕ, ◌+◌, List, [], ◌∷◌, ◌++◌, length, drop, refl, sym, ◌∙◌, ap, subst, arith, length-append}
 use Rattle.arz_wire.specs.declared.entry.Entry.{Entry}
 use Rattle.arz_world.specs.World.{WorldView, talks, IsImage, IsStable, NoNewImage, Later, DiskCall, IsTorn, AreTornBy, written}
 use Rattle.arz_world.specs.declared.world.Talk.{Talk}
 use Rattle.arz_world.specs.Moments.{EachMoment}
 use Rattle.arz_world.proofs.Moments.{call, goes_on, later_trans}
 use Rattle.arz_journal.specs.Journal.{recovered, whole, Recovered, counted, block, IsFront, IsBeforeOrAfter}
-use Rattle.arz_journal.specs.Logs.{IsAt, CanPut, IsPut}
-use Rattle.arz_journal.proofs.Walks.{recovered_closed, length-counted}
+use Rattle.arz_journal.specs.Logs.{CanPut, IsPut}
+use Rattle.arz_journal.proofs.Walks.{recovered_closed}
 use Rattle.arz_journal.proofs.Staged.{torn_behind, written_behind, torn_gate, written_gate, new_front}
 
 module _ (place : ℕ) (bytes : List ℕ) (entry : Entry) (w0 : WorldView) (can : CanPut place bytes entry w0) where

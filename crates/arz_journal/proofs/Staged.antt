@@ -1,12 +1,12 @@
 -- What a crash leaves in each of the two writes of an append.
-use Rattle.std.proofs.Common.{◌≡◌, ◌≢◌, ◌⊎◌, inl, inr, ℕ, ◌+◌, ◌≤◌, ◌<◌, ◌^◌, Bool, true, List, [], ◌∷◌, ◌++◌, length, get_or, take, drop, Ok, refl, sym, ◌∙◌, ap, subst, arith, append_assoc, length-append, take-append-drop}
+use Rattle.std.proofs.Common.{◌≡◌, ◌≢◌, ◌⊎◌, inl, inr, ℕ, ◌+◌, ◌<◌, ◌^◌, List, [], ◌∷◌, ◌++◌, length, get_or, take, drop, Ok, sym, ◌∙◌, ap, subst, arith, append_assoc, length-append, take-append-drop}
 use Rattle.std.proofs.lemmas.List.{take_at, drop_at, drop_more}
 use Rattle.std.proofs.lemmas.Bool.{cases_eq}
 use Rattle.arz_wire.specs.Entries.{entry_of}
 use Rattle.arz_wire.specs.declared.entry.Entry.{Entry}
 use Rattle.arz_world.specs.World.{IsTorn, written}
 use Rattle.arz_journal.specs.Journal.{recovered, whole, counted, block, IsFront}
-use Rattle.arz_journal.proofs.Walks.{recovered_closed, front_push, length-counted}
+use Rattle.arz_journal.proofs.Walks.{recovered_closed, front_push}
 
 module _ (front : List ℕ) (entries : List Entry) (is_front : IsFront front entries) (gate : ℕ) (shut : gate ≢ 1) (behind : List ℕ) (place : ℕ) (place_is : place ≡ length front) where
   abbrev file : List ℕ

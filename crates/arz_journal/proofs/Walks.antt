@@ -1,14 +1,13 @@
 -- What blocks behind one another give.
-use Rattle.std.proofs.Common.{◌≡◌, ◌≢◌, ℕ, zero, suc, ◌+◌, ◌≤◌, ◌<◌, ◌^◌, ◌==◌, ne_eqb, Bool, true, false, ltb, nat_lt, List, [], ◌∷◌, ◌++◌, length, take, drop, Option, Some, None, Result, Ok, Err, if◌then◌else◌, inl, inr, refl, sym, ◌∙◌, ap, subst, arith, append_assoc, length-append}
+use Rattle.std.proofs.Common.{◌≡◌, ◌≢◌, ℕ, zero, suc, ◌+◌, ◌≤◌, ◌<◌, ◌^◌, ne_eqb, Bool, true, false, nat_lt, List, [], ◌∷◌, ◌++◌, length, take, drop, Option, Some, None, Ok, if◌then◌else◌, inl, inr, refl, sym, ◌∙◌, ap, arith, append_assoc, length-append}
 use Rattle.std.specs.Int.{w32, to_be_bytes, from_be_bytes}
 use Rattle.std.specs.Str.{bytes_eq}
-use Rattle.std.proofs.lemmas.List.{append-nil, take_at, drop_at, nil_from_length}
+use Rattle.std.proofs.lemmas.List.{append-nil, take_at, drop_at}
 use Rattle.std.proofs.lemmas.Bool.{cases_lt, lt-ltb, le-ltb}
 use Rattle.std.proofs.lemmas.Nat.{from_be_bytes-to_be_bytes_4}
 use Rattle.arz_wire.specs.Entries.{entry_of}
 use Rattle.arz_wire.specs.declared.entry.Entry.{Entry}
-use Rattle.arz_wire.specs.declared.fault.WireFault.{WireFault}
-use Rattle.arz_journal.specs.Journal.{magic, Recovered, whole, payload_length, read_entry, entry_behind, entry_then, from_gate, recovered, counted, block, AreBlocks, IsFront}
+use Rattle.arz_journal.specs.Journal.{magic, Recovered, whole, payload_length, read_entry, entry_then, from_gate, recovered, counted, block, AreBlocks, IsFront}
 
 pub skips : (skip at : ℕ) (bytes : List ℕ) → from_gate at skip bytes ≡ from_gate (at + skip) 0 (drop skip bytes)
 skips zero at [] = refl

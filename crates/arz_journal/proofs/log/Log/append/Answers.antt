@@ -1,4 +1,4 @@
-use Rattle.std.proofs.Common.{◌≡◌, ◌+◌, ◌∙◌, false, IsTrue, refl, sym, ap, subst, take, List, ℕ}
+use Rattle.std.proofs.Common.{◌≡◌, ◌∙◌, false, IsTrue, refl, sym, ap, subst, take, List, ℕ}
 use Rattle.arz_wire.specs.declared.entry.Entry.{Entry}
 use Rattle.arz_journal.specs.Journal.{payload}
 use Rattle.arz_journal.specs.Logs.{LogView}
