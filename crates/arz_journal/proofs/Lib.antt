@@ -1,4 +1,5 @@
 mod Appended
+mod Begins
 mod Firsts
 mod Puts
 mod Staged

@@ -1,11 +1,13 @@
 -- Where a log stands in the file of a world.
-use Rattle.std.specs.Prelude.{◌≡◌, ◌≢◌, ◌⊎◌, ◌+◌, ◌≤◌, ◌<◌, ◌^◌, ℕ, Bool, true, false, List, [], ◌∷◌, ◌++◌, length, IsTrue, Ok}
+use Rattle.std.specs.Prelude.{◌≡◌, ◌≢◌, ◌⊎◌, ◌+◌, ◌≤◌, ◌<◌, ◌^◌, ℕ, Bool, true, false, List, [], ◌∷◌, ◌++◌, length, IsTrue, Result, Ok, Err}
 use Rattle.arz_wire.specs.Entries.{entry_of}
 use Rattle.arz_wire.specs.declared.entry.Entry.{Entry}
-use Rattle.arz_world.specs.World.{WorldView, IsStable}
+use Rattle.std.specs.declared.option.Option.TheVariants.{Some}
+use Rattle.arz_world.specs.Moments.{EachMoment}
+use Rattle.arz_world.specs.World.{WorldView, IsStable, IsImage, NoNewImage, Later, talks}
 use Rattle.arz_world.specs.declared.world.DiskFault.{DiskFault}
 use Rattle.arz_world.specs.declared.world.DiskFault.TheVariants as disk
-use Rattle.arz_journal.specs.Journal.{IsFront, counted, recovered, whole}
+use Rattle.arz_journal.specs.Journal.{IsFront, counted, recovered, whole, ahead}
 use Rattle.arz_journal.specs.declared.log.JournalFault.{JournalFault}
 use Rattle.arz_journal.specs.declared.log.JournalFault.TheVariants as journal
 
@@ -71,3 +73,20 @@ pub record IsPut (place : ℕ) (bytes : List ℕ) (entry : Entry) (old new : Wor
 abbrev pub of_disk : DiskFault → JournalFault
 of_disk disk.Failed = journal.Disk
 of_disk disk.Memory = journal.Memory
+
+-- calls that only look: the file and the talks stay, and no image is new at any moment
+pub record Looks (old new : WorldView) : Type 0 where
+  pub time : Later old new
+  pub images : NoNewImage old new
+  pub file : new.file ≡ old.file
+  pub each : EachMoment old new (λ image ts. IsImage old image × (ts ≡ talks old))
+  pub links : new.link_faults ≡ old.link_faults
+  pub talks : talks new ≡ talks old
+
+-- What the first bytes of a file say: it gives nothing, or the entries from its first gate on, of which one is
+-- open, or it is no journal.
+abbrev pub FirstGate : List ℕ → Result Bool JournalFault → Type 0
+FirstGate file (Ok true) = IsNothing file
+FirstGate file (Ok false) = IsAt 8 false file × (recovered file ≡ ahead file 8) × (recovered file ≢ whole [])
+FirstGate file (Err (journal.NotAJournal at)) = recovered file ≡ record { entries = []; broken = Some 0 }
+FirstGate file (Err _) = Unit {0}

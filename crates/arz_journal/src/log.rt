@@ -1,16 +1,18 @@
 // A log.
-ghost use Rattle.std.specs.Prelude.{◌≡◌, ◌≢◌, ◌⊎◌, ◌↔◌, ◌+◌, ◌≤◌, ◌<◌, ◌^◌, ◌++◌, ◌∷◌, [], Ok, Err, length, IfOk, OnOk, OnErr, IsTrue, true, false};
+ghost use Rattle.std.specs.Prelude.{◌≡◌, ◌≢◌, ◌⊎◌, ◌↔◌, ◌+◌, ◌≤◌, ◌<◌, ◌^◌, ◌++◌, ◌∷◌, [], not, ℕ, Ok, Err, length, IfOk, OnOk, OnErr, IsTrue, true, false};
 ghost use Rattle.arz_wire.specs.declared.entry.Entry.{Entry};
 ghost use Rattle.arz_world.specs.Outside.{Rose};
 ghost use Rattle.arz_world.specs.World.{talks, Later};
 ghost use Rattle.arz_world.specs.Moments.{EachMoment};
-ghost use Rattle.arz_journal.specs.Journal.{recovered, whole, payload, Spells, IsBeforeOrAfter};
-ghost use Rattle.arz_journal.specs.Logs.{LogView, Ready};
+ghost use Rattle.arz_journal.specs.Journal.{recovered, whole, ahead, payload, Spells, IsBeforeOrAfter};
+ghost use Rattle.arz_journal.specs.Logs.{LogView, Ready, Stands, Looks};
+ghost use Rattle.std.specs.declared.option.Option.TheVariants.{Some};
 
+use crate::attach::{barrier, first_gate};
 use crate::block::{fill_buffer, is_full, mark_bytes, put_block, put_first};
 use arz_wire::Mark;
 use arz_world::{DiskFault, World};
-use std::alloc::AllocError;
+use std::alloc::{AllocError, Global};
 use std::marker::Model;
 use thiserror::Error;
 
@@ -86,6 +88,37 @@ impl Model for Log {
 }
 
 impl Log {
+    /// A log of the file at a path: attaches it, syncs it as a barrier, so that what is read stays, and reads
+    /// its length, its first eight bytes and its first gate. `NotAJournal(0)` comes exactly where the file has
+    /// more than nine bytes and begins otherwise.
+    pub fn attach<W: World>(alloc: Global, world: &mut W, path: &str) -> Result<Log, JournalFault>
+        ensures stands { IfOk result (λ log. IsTrue (W.told world.old).tells → Stands log (W.told world.new)) }
+        ensures log { IfOk result (λ log. log ≡ record { place = 8; room = 0; is_new = log.is_new; is_open = not log.is_new; is_ended = false; is_spent = false }) }
+        ensures nothing { IfOk result (λ log. IsTrue (W.told world.old).tells → log.is_new ≡ true → recovered (W.told world.new).file ≡ whole []) }
+        ensures entries { IfOk result (λ log. IsTrue (W.told world.old).tells → log.is_new ≡ false
+            → (recovered (W.told world.new).file ≡ ahead (W.told world.new).file 8) × (recovered (W.told world.new).file ≢ whole [])) }
+        ensures other { (at : ℕ) → result ≡ Err (JournalFault.NotAJournal at) → (at ≡ 0)
+            × (IsTrue (W.told world.old).tells → recovered (W.told world.new).file ≡ record { entries = []; broken = Some 0 }) }
+
+        // At each moment of it, each image is one of those of the beginning.
+        ensures looks { Looks (W.told world.old) (W.told world.new) }
+        ensures path { OnOk result (IsTrue (W.told world.old).tells → (W.told world.new).attached ≡ path.now) }
+        ensures disk { result ≡ Err JournalFault.Disk → Rose (W.told world.old).disk_faults (W.told world.new).disk_faults }
+        ensures not_full { result ≢ Err JournalFault.Full }
+        ensures not_spent { result ≢ Err JournalFault.Spent }
+    {
+        let size = barrier(world, path)?;
+        let is_new = first_gate(world, size)?;
+        Ok(Log {
+            place: 8,
+            buffer: Vec::new(alloc),
+            is_new,
+            is_open: !is_new,
+            is_ended: false,
+            is_spent: false,
+        })
+    }
+
     /// Whether the file gave no entry when the log was attached, and is a journal or can become one.
     pub fn is_new(&self) -> bool
         ensures { result ≡ self.now.is_new }
