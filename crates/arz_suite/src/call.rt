@@ -1,8 +1,7 @@
 // The calls that cases name.
-use crate::case::Case;
-use crate::fault::CaseFault;
-use crate::outcome::Outcome;
 use crate::{expressions, messages, outside, patterns, queries, requests, top, trees, wires};
+use arz_calls::LibraryCall;
+use arz_cases::{Case, CaseFault, Outcome};
 use std::alloc::Global;
 
 /// What a case calls.
@@ -37,6 +36,8 @@ pub enum Call {
     Outputs,
     Wait,
     Request,
+    /// A call of `arz_calls`.
+    Library(LibraryCall),
 }
 
 impl Call {
@@ -78,7 +79,7 @@ impl Call {
             "outputs" => Call::Outputs,
             "wait" => Call::Wait,
             "request" => Call::Request,
-            _ => return None,
+            _ => Call::Library(LibraryCall::named(name)?),
         })
     }
 
@@ -119,6 +120,7 @@ impl Call {
             Call::Scope => messages::scope(alloc, case),
             Call::Outputs => messages::outputs(alloc, case),
             Call::Wait => messages::wait(alloc, case),
+            Call::Library(call) => call.outcome(alloc, case),
             _ => requests::request(alloc, case),
         }
     }

@@ -2,9 +2,7 @@
 ghost use Rattle.std.specs.Prelude.{◌≤◌, Some};
 ghost use Rattle.arz_json.specs.Tree.{depth, IsWellFormed};
 
-use crate::case::Case;
-use crate::fault::CaseFault;
-use crate::outcome::{Outcome, text_of};
+use arz_cases::{Case, CaseFault, Outcome, text_of};
 use arz_expr::{Base, Expr, FillFault, Scope, Tail, Template, fill as filled, value as value_of};
 use arz_json::Json;
 use std::alloc::{AllocError, Global};

@@ -3,11 +3,8 @@
 #![tactic(auto)]
 
 mod call;
-mod case;
 mod expressions;
-mod fault;
 mod messages;
-mod outcome;
 mod outside;
 mod paths;
 mod patterns;

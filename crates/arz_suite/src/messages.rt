@@ -2,9 +2,7 @@
 ghost use Rattle.std.specs.Prelude.{IfOk, All};
 ghost use Rattle.arz_flow.specs.Shallow.{AreShallow, HaveShallow, IsShallow, SendsShallow};
 
-use crate::case::Case;
-use crate::fault::CaseFault;
-use crate::outcome::{Outcome, brief, flag_word, text_of};
+use arz_cases::{Case, CaseFault, Outcome, brief, flag_word, text_of};
 use arz_expr::{Expr, value};
 use arz_flow::{Ask, End, Fact, ask_text, end_line};
 use arz_json::{Bytes, Json, Location, Many, Members, Text};

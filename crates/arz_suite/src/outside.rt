@@ -1,7 +1,5 @@
 // Files and sinks in memory.
-use crate::case::Case;
-use crate::fault::CaseFault;
-use crate::outcome::Outcome;
+use arz_cases::{Case, CaseFault, Outcome};
 use arz_json::{Bytes, Many, Text};
 use arz_world::{
     FileFault, Files, MemoryFiles, MemorySink, NamedBytes, Sink, SinkFault, note_fault,

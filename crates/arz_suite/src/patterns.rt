@@ -1,7 +1,5 @@
 // I-Regexps, and tables of patterns.
-use crate::case::Case;
-use crate::fault::CaseFault;
-use crate::outcome::{Outcome, flag_word};
+use arz_cases::{Case, CaseFault, Outcome, flag_word};
 use arz_rx::{Patterns, SearchFault, TablePatterns, i_regexp};
 use serde_json::Value;
 use std::alloc::Global;

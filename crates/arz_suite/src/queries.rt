@@ -1,9 +1,7 @@
 // Queries of JSONPath.
-use crate::case::Case;
-use crate::fault::CaseFault;
-use crate::outcome::{Outcome, flag_word};
 use crate::paths::path_of;
 use crate::patterns::patterns_of;
+use arz_cases::{Case, CaseFault, Outcome, flag_word};
 use arz_json::{Json, Many, same};
 use arz_path::{Place, SelectFault, any as selects_any, found as node_at, select};
 use arz_query::{PathFault, Query};

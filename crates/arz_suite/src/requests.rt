@@ -1,8 +1,6 @@
 // The request of a step.
-use crate::case::Case;
 use crate::expressions::scope_of;
-use crate::fault::CaseFault;
-use crate::outcome::Outcome;
+use arz_cases::{Case, CaseFault, Outcome};
 use arz_flow::Cause;
 use arz_request::{BuildFault, OperationAt, request as request_of};
 use std::alloc::Global;

@@ -1,8 +1,6 @@
 // Files of cases, and how many of them passed.
 use crate::call::Call;
-use crate::case::Case;
-use crate::fault::CaseFault;
-use crate::outcome::Outcome;
+use arz_cases::{Case, CaseFault, Outcome};
 use serde_json::Value;
 use std::alloc::Global;
 use std::fs::Files;

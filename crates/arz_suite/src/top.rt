@@ -1,9 +1,7 @@
 // The top call.
-use crate::case::Case;
-use crate::fault::CaseFault;
-use crate::outcome::Outcome;
 use crate::outside::{files_of, sink_of};
 use crate::patterns::patterns_of;
+use arz_cases::{Case, CaseFault, Outcome};
 use arz_top::run_words;
 use std::alloc::Global;
 

@@ -1,7 +1,5 @@
 // JSON trees, and places in them.
-use crate::case::Case;
-use crate::fault::CaseFault;
-use crate::outcome::{Outcome, brief, flag_word, text_of};
+use arz_cases::{Case, CaseFault, Outcome, brief, flag_word, text_of};
 use arz_json::{
     Bytes, CompactFault, JsonFault, Many, PutFault, Text, at as value_at, compact, copy, is_deeper,
     put as put_at, read, same as are_same,

@@ -1,9 +1,7 @@
 // The wire form of trees and of journal entries.
 ghost use Rattle.arz_json.specs.Tree.{IsWellFormed};
 
-use crate::case::Case;
-use crate::fault::CaseFault;
-use crate::outcome::{Outcome, brief, flag_word};
+use arz_cases::{Case, CaseFault, Outcome, brief, flag_word};
 use arz_json::{CompactFault, Json, compact_string};
 use arz_wire::{Entry, WireFault, decode as decode_entry, read, write};
 use std::alloc::Global;

@@ -1,5 +1,5 @@
 use Rattle.std.proofs.Common.{◌+◌, ◌*◌}
-use Rattle.arz_suite.proofs.case.Case.+part.Given as goal
+use Rattle.arz_cases.proofs.case.Case.+part.Given as goal
 
 abbrev pub decreases-add_part : goal.decreases-add_part
 decreases-add_part l = 2 * l.levels

@@ -1,0 +1,7 @@
+//! Calls of libraries over what cases describe. [`LibraryCall`] lists them.
+#![tactic(auto)]
+
+mod calls;
+mod styles;
+
+pub use calls::LibraryCall;
