@@ -1,0 +1,12 @@
+pub mod Walks
+pub mod Bounds
+pub mod Marked
+pub mod Entering
+pub mod Taking
+pub mod Merging
+pub mod Leaving
+pub mod Lists
+pub mod Searches
+pub mod Works
+pub mod Ends
+pub mod Tests
