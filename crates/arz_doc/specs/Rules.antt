@@ -10,7 +10,6 @@ use Rattle.arz_json.specs.declared.place.Token.{Token}
 use Rattle.arz_json.specs.declared.place.Token.TheVariants.{Name, Index}
 use Rattle.arz_json.specs.Look.{member_in, int_in, object_in}
 use Rattle.arz_json.specs.Tree.{member_step}
-use Rattle.arz_expr.specs.Reading.{after}
 use Rattle.arz_rules.specs.Place.{under, here_unless}
 use Rattle.arz_rules.specs.Sites.{Step, member, each_member, Check, at, at_each, text_named, items, after as more, before}
 use Rattle.arz_rules.specs.Sets.{is_text, is_among, texts_at, bad_text, bad_names, repeats as repeated}
@@ -18,9 +17,11 @@ use Rattle.arz_rules.specs.Texts.{is_name, is_version}
 use Rattle.arz_rules.specs.Misses.{misses}
 use Rattle.arz_rules.specs.declared.kinds.Kind.TheVariants as Kind
 use Rattle.arz_doc.specs.Texts.{is_header, is_media_type, is_expression, is_value_text, is_operation_path, source_and_id, source_and_pointer}
-use Rattle.arz_doc.specs.Described.{Components, only, items_of, sources, workflows, own_steps, steps, part_name, each_component, is_reuse, reused_name, actual, unless_reuse, runs_workflow, success_lists, failure_lists, success_items, failure_items, each_action, each_criterion, parameters_of, values}
-use Rattle.arz_doc.specs.declared.components.Part.{Part}
-use Rattle.arz_doc.specs.declared.components.Part.TheVariants.{Inputs, Parameters, SuccessActions, FailureActions}
+use Rattle.arz_components.specs.Texts.{input_name}
+use Rattle.arz_components.specs.Described.{Components, part_name, is_reuse, reused_name, actual}
+use Rattle.arz_doc.specs.Described.{only, items_of, sources, workflows, own_steps, steps, each_component, unless_reuse, runs_workflow, success_lists, failure_lists, success_items, failure_items, each_action, each_criterion, parameters_of, values}
+use Rattle.arz_components.specs.declared.components.Part.{Part}
+use Rattle.arz_components.specs.declared.components.Part.TheVariants.{Inputs, Parameters, SuccessActions, FailureActions}
 use Rattle.arz_json.specs.declared.tree.Location.{Location}
 use Rattle.arz_json.specs.declared.tree.Location.TheVariants.{Path, Query, Header, Cookie}
 use Rattle.arz_doc.specs.declared.checks.Wanted.{Wanted}
@@ -217,10 +218,6 @@ lost_steps find known workflow =
 
 abbrev pub lost_steps_of : Components → Check
 lost_steps_of find workflow = lost_steps find (is_step workflow) workflow
-
--- the component that `#/components/inputs/NAME` names
-abbrev pub input_name : List ℕ → Option (List ℕ)
-input_name text = after (codes "#/components/inputs/") text
 
 abbrev pub is_there : (List ℕ → Option Json) → Option (List ℕ) → Bool
 is_there find None = true

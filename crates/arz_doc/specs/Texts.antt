@@ -6,7 +6,8 @@ use Rattle.std.specs.Str.{bytes_eq}
 use Rattle.std.specs.Option.{is_some}
 use Rattle.arz_json.specs.Texts.{split_once}
 use Rattle.arz_expr.specs.Grammar.{is_pointer_byte, is_rooted, escapes_tildes}
-use Rattle.arz_expr.specs.Reading.{after, reading}
+use Rattle.arz_components.specs.Texts.{after}
+use Rattle.arz_expr.specs.Reading.{reading}
 use Rattle.arz_rules.specs.Texts.{is_name, is_token}
 
 -- the same text, where the case of ASCII letters is passed over
@@ -88,9 +89,3 @@ source_and_pointer text = option_and_then with_pointer (option_and_then dotted (
 
 abbrev pub is_operation_path : List ℕ → Bool
 is_operation_path text = is_some (source_and_pointer text)
-
--- ---- references
-
--- of a reference `$components.PART.NAME` to this part the name (Arazzo 1.0.1, section 4.6.10)
-abbrev pub referred : List ℕ → List ℕ → Option (List ℕ)
-referred part text = option_and_then (after (codes ".")) (option_and_then (after part) (after (codes "$components.") text))

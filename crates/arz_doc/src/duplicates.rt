@@ -3,13 +3,14 @@ ghost use Rattle.std.specs.Prelude.{◌≡◌, true, IfOk, map};
 ghost use Rattle.arz_json.specs.Tree.{has_form};
 ghost use Rattle.arz_rules.specs.Place.{least, tokens_in};
 ghost use Rattle.arz_rules.specs.Sites.{at, at_each, seen_way, seen_site};
-ghost use Rattle.arz_doc.specs.Indexes.{finds};
+ghost use Rattle.arz_components.specs.Indexes.{finds};
 ghost use Rattle.arz_doc.specs.declared.repeats.Key.TheVariants.{NamedIn};
 ghost use Rattle.arz_doc.specs.Rules.{repeats, repeated_names, repeated_actions, repeated_givens, duplicates, repeated_parameters as parameters_repeated, repeated_in_step as repeated_below_step};
 
-use crate::components::{Components, Part, runs_workflow};
+use crate::guards::runs_workflow;
 use crate::repeats::{Key, Listed};
 use crate::sites::{failure_lists, success_lists};
+use arz_components::{Components, Part};
 use arz_json::{Json, Location, Place};
 use arz_rules::Way::{EachItem, Member};
 use arz_rules::{Check, Distinct, Way, first_at, first_at_each, lesser};
@@ -56,7 +57,7 @@ struct DistinctParameters<'s, 'a> {
 }
 
 impl<'s, 'a> Check for DistinctParameters<'s, 'a> {
-    ghost use Rattle.arz_doc.specs.Indexes.{finds};
+    ghost use Rattle.arz_components.specs.Indexes.{finds};
     ghost use Rattle.arz_doc.specs.Rules.{repeated_parameters};
 
     ghost places = { λ c. repeated_parameters (finds c.components.now) };
@@ -92,7 +93,7 @@ struct DistinctInStep<'s, 'a> {
 }
 
 impl<'s, 'a> Check for DistinctInStep<'s, 'a> {
-    ghost use Rattle.arz_doc.specs.Indexes.{finds};
+    ghost use Rattle.arz_components.specs.Indexes.{finds};
     ghost use Rattle.arz_doc.specs.Rules.{repeated_in_step};
 
     ghost places = { λ c. repeated_in_step (finds c.components.now) };

@@ -5,8 +5,8 @@ ghost use Rattle.arz_json.specs.Tree.{has_form};
 ghost use Rattle.arz_rules.specs.Place.{least, tokens_in};
 ghost use Rattle.arz_doc.specs.Rules.{count_there, count_of, targets as target_count, is_type as has_type, has_targets as right_targets, mixtures};
 
-use crate::components::text_of;
 use crate::guards::first_in_actions;
+use arz_components::text_of;
 use arz_json::{Json, Place};
 use arz_rules::Way::{EachItem, Member};
 use arz_rules::{Check, Way, first_at, lesser, root_unless};

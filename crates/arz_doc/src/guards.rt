@@ -2,14 +2,21 @@
 ghost use Rattle.std.specs.Prelude.{◌≡◌, true, IfOk, map};
 ghost use Rattle.arz_json.specs.Tree.{has_form};
 ghost use Rattle.arz_rules.specs.Place.{least, tokens_in};
-ghost use Rattle.arz_doc.specs.Described.{each_action, each_criterion};
+ghost use Rattle.arz_doc.specs.Described.{each_action, each_criterion, runs_workflow as flow_step};
 
-use crate::components::{is_reuse, runs_workflow};
 use crate::sites::{listed_actions, shared_actions};
+use arz_components::is_reuse;
 use arz_json::{Json, Place};
 use arz_rules::Way::{EachItem, Member};
 use arz_rules::{Check, Way, first_at, first_at_each, lesser};
 use std::alloc::{AllocError, Global};
+
+/// Whether a step runs a workflow (Arazzo 1.0.1, section 4.6.5).
+pub fn runs_workflow(step: &Json) -> bool
+    ensures { result ≡ flow_step step.now }
+{
+    step.get("workflowId").is_some()
+}
 
 /// A check that passes over reusable objects (Arazzo 1.0.1, section 4.6.10).
 #[derive(Drop)]

@@ -17,7 +17,6 @@
 #![tactic(auto)]
 
 mod checks;
-mod components;
 mod criteria;
 mod duplicates;
 mod exclusive;

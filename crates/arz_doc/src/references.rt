@@ -4,18 +4,18 @@ ghost use Rattle.std.specs.Option.{is_some};
 ghost use Rattle.arz_json.specs.Tree.{has_form};
 ghost use Rattle.arz_rules.specs.Place.{least, tokens_in};
 ghost use Rattle.arz_rules.specs.Sets.{has};
-ghost use Rattle.arz_doc.specs.Indexes.{finds};
+ghost use Rattle.arz_components.specs.Indexes.{finds};
 ghost use Rattle.arz_doc.specs.Rules.{wrong_use, lost_workflows_by, lost_steps as steps_lost, lost_steps_of, lost_sources_by, lost_components, lost_references, lost_names_with, placeless_uses, names_known, goes_known, goes_to as goes_to_one, has_place as place_there, is_input as input_there, is_step, is_source, is_workflow};
-ghost use Rattle.arz_doc.specs.declared.components.Part.TheVariants.{Parameters};
+ghost use Rattle.arz_components.specs.declared.components.Part.TheVariants.{Parameters};
 
 use crate::checks::Wanted;
-use crate::components::{Components, Part, reused_name, text_of};
 use crate::guards::{Below, UnlessFlow, UnlessReuse, first_in_actions};
 use crate::repeats::member_if;
 use crate::sites::{
     failure_items, own_failure_items, own_items, own_success_items, parameters, success_items,
 };
-use crate::texts::{after, source_and_id, source_and_pointer};
+use crate::texts::{source_and_id, source_and_pointer};
+use arz_components::{Components, Part, input_name, reused_name, text_of};
 use arz_json::{Json, Place};
 use arz_rules::Way::{EachItem, Member};
 use arz_rules::{
@@ -31,7 +31,7 @@ struct KnownUse<'s, 'a> {
 }
 
 impl<'s, 'a> Check for KnownUse<'s, 'a> {
-    ghost use Rattle.arz_doc.specs.Indexes.{finds};
+    ghost use Rattle.arz_components.specs.Indexes.{finds};
     ghost use Rattle.arz_doc.specs.Rules.{lost_use};
 
     ghost places = { λ c. lost_use (finds c.components.now) c.part };
@@ -63,9 +63,9 @@ struct PlacedUse<'s, 'a> {
 }
 
 impl<'s, 'a> Check for PlacedUse<'s, 'a> {
-    ghost use Rattle.arz_doc.specs.Indexes.{finds};
+    ghost use Rattle.arz_components.specs.Indexes.{finds};
     ghost use Rattle.arz_doc.specs.Rules.{wrong_use, has_place};
-    ghost use Rattle.arz_doc.specs.declared.components.Part.TheVariants.{Parameters};
+    ghost use Rattle.arz_components.specs.declared.components.Part.TheVariants.{Parameters};
 
     ghost places = { λ c. wrong_use (finds c.components.now) Parameters has_place };
 
@@ -102,7 +102,7 @@ struct GoingUse<'s, 'a, 'w> {
 
 impl<'s, 'a, 'w> Check for GoingUse<'s, 'a, 'w> {
     ghost use Rattle.arz_rules.specs.Sets.{has};
-    ghost use Rattle.arz_doc.specs.Indexes.{finds};
+    ghost use Rattle.arz_components.specs.Indexes.{finds};
     ghost use Rattle.arz_doc.specs.Rules.{wrong_use, goes_to};
 
     ghost places = { λ c. wrong_use (finds c.components.now) c.part (goes_to (has c.steps.now)) };
@@ -178,7 +178,7 @@ struct KnownSteps<'s, 'a> {
 }
 
 impl<'s, 'a> Check for KnownSteps<'s, 'a> {
-    ghost use Rattle.arz_doc.specs.Indexes.{finds};
+    ghost use Rattle.arz_components.specs.Indexes.{finds};
     ghost use Rattle.arz_doc.specs.Rules.{lost_steps_of};
 
     ghost places = { λ c. lost_steps_of (finds c.components.now) };
@@ -305,7 +305,7 @@ fn first_lost_source(
 fn is_input(components: &Components, text: &str) -> bool
     ensures { result ≡ input_there (finds components.now) text.now }
 {
-    match after(text, "#/components/inputs/") {
+    match input_name(text) {
         Some(name) => components.find(Part::Inputs, name).is_some(),
         None => true,
     }
@@ -319,7 +319,7 @@ struct KnownInputs<'s, 'a> {
 
 impl<'s, 'a> Check for KnownInputs<'s, 'a> {
     ghost use Rattle.arz_rules.specs.Sets.{bad_text};
-    ghost use Rattle.arz_doc.specs.Indexes.{finds};
+    ghost use Rattle.arz_components.specs.Indexes.{finds};
     ghost use Rattle.arz_doc.specs.Rules.{is_input};
 
     ghost places = { λ c. bad_text (is_input (finds c.components.now)) };

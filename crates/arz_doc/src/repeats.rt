@@ -2,11 +2,11 @@
 ghost use Rattle.std.specs.Prelude.{◌≡◌, [], ◌∷◌, IfOk, option_map, if◌then◌else◌, Some, None};
 ghost use Rattle.arz_json.specs.declared.place.Token.TheVariants.{Name};
 ghost use Rattle.arz_rules.specs.Place.{tokens_in};
-ghost use Rattle.arz_doc.specs.Indexes.{finds};
+ghost use Rattle.arz_components.specs.Indexes.{finds};
 ghost use Rattle.arz_doc.specs.Rules.{place_word as word_of_place, key_of, told_member as member_told, used_name as name_used, name_if_in as name_in_place};
 ghost use Rattle.arz_rules.specs.Sets.{is_text};
 
-use crate::components::{Components, Part, actual, is_reuse, text_of};
+use arz_components::{Components, Part, actual, is_reuse, text_of};
 use arz_json::{Json, Location, Place};
 use arz_rules::{Keyed, below_name, root_unless};
 use std::alloc::{AllocError, Global};
@@ -92,7 +92,7 @@ pub struct Listed<'s, 'a> {
 }
 
 impl<'s, 'a> Keyed for Listed<'s, 'a> {
-    ghost use Rattle.arz_doc.specs.Indexes.{finds};
+    ghost use Rattle.arz_components.specs.Indexes.{finds};
     ghost use Rattle.arz_doc.specs.Rules.{key_of as key_text, told_member};
 
     ghost key_of = { λ c. key_text (finds c.components.now) c.key };

@@ -5,8 +5,8 @@ ghost use Rattle.arz_rules.specs.Place.{least, tokens_in};
 ghost use Rattle.arz_doc.specs.Rules.{bad_headers, bad_media_types};
 
 use crate::checks::Wanted;
-use crate::components::text_of;
 use crate::guards::{Below, UnlessFlow, UnlessReuse};
+use arz_components::text_of;
 use arz_json::{Json, Place};
 use arz_rules::Way::{EachItem, EachMember, Member};
 use arz_rules::{Check, Way, first_at, lesser};

@@ -2,21 +2,15 @@
 ghost use Rattle.std.specs.Prelude.{◌≡◌, ◌||◌, ◌==◌, IfOk, option_map, map};
 ghost use Rattle.std.specs.Option.{option_copied};
 ghost use Rattle.std.specs.List.{list_all, list_any};
-ghost use Rattle.arz_expr.specs.Reading.{after as after_key, reading};
+ghost use Rattle.arz_expr.specs.Reading.{reading};
 ghost use Rattle.arz_expr.specs.Grammar.{is_pointer_byte as pointer_byte, is_rooted as rooted, escapes_tildes as escapes, begins_with_digit_of_escape};
-ghost use Rattle.arz_doc.specs.Texts.{is_caseless as caseless, is_header as header, is_printable as printable, is_plain_type as plain_type, is_media_type as media_type, is_expression as expression, begins as begins_with, means_value as value_is_meant, is_value_text as value_text, dotted as dotted_text, source_and_id as id_parts, source_and_pointer as path_parts, is_path_pointer as path_pointer, is_operation_path as operation_path, referred as referred_name, reserved_headers};
+ghost use Rattle.arz_doc.specs.Texts.{is_caseless as caseless, is_header as header, is_printable as printable, is_plain_type as plain_type, is_media_type as media_type, is_expression as expression, begins as begins_with, means_value as value_is_meant, is_value_text as value_text, dotted as dotted_text, source_and_id as id_parts, source_and_pointer as path_parts, is_path_pointer as path_pointer, is_operation_path as operation_path, reserved_headers};
 
+use arz_components::after;
 use arz_expr::Expr;
 use arz_json::split_once;
 use arz_rules::{is_name, is_token};
 use std::alloc::{AllocError, Global};
-
-/// What follows a key, where the text begins with it.
-pub fn after<'a>(text: &'a str, key: &str) -> Option<&'a str>
-    ensures { option_copied result ≡ after_key key.now text.now }
-{
-    text.strip_prefix(key)
-}
 
 fn is_caseless(left: &str, right: &str) -> bool
     ensures { result ≡ caseless left.now right.now }
@@ -192,13 +186,4 @@ pub fn is_operation_path(text: &str) -> bool
     ensures { result ≡ operation_path text.now }
 {
     source_and_pointer(text).is_some()
-}
-
-/// Of a reference `$components.PART.NAME` to this part the name (Arazzo 1.0.1, section 4.6.10).
-pub fn referred<'a>(part: &str, text: &'a str) -> Option<&'a str>
-    ensures { option_copied result ≡ referred_name part.now text.now }
-{
-    let rest = after(text, "$components.")?;
-    let rest = after(rest, part)?;
-    after(rest, ".")
 }

@@ -5,10 +5,10 @@ ghost use Rattle.arz_rules.specs.Place.{least, tokens_in};
 ghost use Rattle.arz_doc.specs.Rules.{fractions, broken_numbers as numbers_broken, bad_texts, text_level, text_level_of, named_texts, in_each_item, in_each_member, asks_context as context_asked, bad_expressions};
 
 use crate::checks::Wanted;
-use crate::components::text_of;
 use crate::guards::{first_in_actions, first_in_criteria};
 use crate::sites::{outputs, values};
 use crate::texts::is_value_text;
+use arz_components::text_of;
 use arz_json::{Json, Many, Members, Place};
 use arz_rules::Way::{EachItem, Member};
 use arz_rules::{

@@ -1,8 +1,8 @@
 use Rattle.arz_rules.specs.Sites.{at_each, before}
 use Rattle.arz_doc.specs.Described.{workflows, success_lists, failure_lists}
-use Rattle.arz_doc.specs.Indexes.{finds}
+use Rattle.arz_components.specs.Indexes.{finds}
 use Rattle.arz_doc.specs.Rules.{repeats}
-use Rattle.arz_doc.specs.declared.components.Part.TheVariants.{SuccessActions, FailureActions}
+use Rattle.arz_components.specs.declared.components.Part.TheVariants.{SuccessActions, FailureActions}
 use Rattle.arz_doc.specs.declared.repeats.Key.TheVariants.{Named}
 use Rattle.arz_doc.proofs.Parts.{joined, on_sites}
 use Rattle.arz_doc.proofs.duplicates.first_action.Goals as goal

@@ -1,5 +1,5 @@
 use Rattle.std.proofs.Common.{◌++◌}
-use Rattle.arz_doc.specs.Indexes.{finds}
+use Rattle.arz_components.specs.Indexes.{finds}
 use Rattle.arz_doc.specs.Rules.{repeated_names, repeated_actions, repeated_givens}
 use Rattle.arz_doc.proofs.Parts.{joined}
 use Rattle.arz_doc.proofs.duplicates.first_duplicate.Goals as goal

@@ -1,7 +1,7 @@
 use Rattle.std.proofs.Common.{◌++◌, codes}
 use Rattle.arz_rules.specs.Sites.{at}
 use Rattle.arz_doc.specs.Described.{only, workflows, steps}
-use Rattle.arz_doc.specs.Indexes.{finds}
+use Rattle.arz_components.specs.Indexes.{finds}
 use Rattle.arz_doc.specs.Rules.{repeated_parameters, repeated_in_step}
 use Rattle.arz_doc.proofs.Parts.{joined}
 use Rattle.arz_doc.proofs.duplicates.first_given.Goals as goal

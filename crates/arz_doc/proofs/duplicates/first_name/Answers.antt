@@ -1,7 +1,7 @@
 use Rattle.std.proofs.Common.{◌++◌, codes}
 use Rattle.arz_rules.specs.Sites.{at}
 use Rattle.arz_doc.specs.Described.{only, workflows}
-use Rattle.arz_doc.specs.Indexes.{finds}
+use Rattle.arz_components.specs.Indexes.{finds}
 use Rattle.arz_doc.specs.Rules.{repeats}
 use Rattle.arz_doc.specs.declared.repeats.Key.TheVariants.{Name, WorkflowId, StepId}
 use Rattle.arz_doc.proofs.Parts.{joined}

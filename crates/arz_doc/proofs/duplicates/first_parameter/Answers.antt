@@ -1,6 +1,6 @@
 use Rattle.std.proofs.Common.{◌++◌}
 use Rattle.arz_json.specs.declared.tree.Location.TheVariants.{Path, Query, Header, Cookie}
-use Rattle.arz_doc.specs.Indexes.{finds}
+use Rattle.arz_components.specs.Indexes.{finds}
 use Rattle.arz_doc.specs.Rules.{repeats}
 use Rattle.arz_doc.specs.declared.repeats.Key.TheVariants.{NamedIn}
 use Rattle.arz_doc.proofs.Parts.{joined}

@@ -1,5 +1,5 @@
 use Rattle.std.proofs.Common.{option_map, ap, sym, ◌∙◌}
-use Rattle.arz_doc.specs.Indexes.{finds}
+use Rattle.arz_components.specs.Indexes.{finds}
 use Rattle.arz_doc.specs.Order.{name_rules, shape_rules, naming_rules, seen_failure}
 use Rattle.arz_doc.proofs.Orders.{of_first, of_later}
 use Rattle.arz_doc.proofs.order.first_of_names.Goals as goal

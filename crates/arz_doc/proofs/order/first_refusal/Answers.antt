@@ -1,6 +1,6 @@
 use Rattle.std.proofs.Common.{◌≡◌, ◌∙◌}
 use Rattle.arz_rules.specs.Phases.{first_failure}
-use Rattle.arz_doc.specs.Indexes.{finds}
+use Rattle.arz_components.specs.Indexes.{finds}
 use Rattle.arz_doc.specs.Order.{rules_with, rules}
 use Rattle.arz_doc.proofs.order.first_refusal.Goals as goal
 

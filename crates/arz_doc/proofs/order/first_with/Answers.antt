@@ -1,5 +1,5 @@
 use Rattle.std.proofs.Common.{option_map, ap, sym, ◌∙◌}
-use Rattle.arz_doc.specs.Indexes.{finds}
+use Rattle.arz_components.specs.Indexes.{finds}
 use Rattle.arz_doc.specs.Order.{rules_with, name_rules, content_rules, seen_failure}
 use Rattle.arz_doc.proofs.Orders.{of_first, of_later}
 use Rattle.arz_doc.proofs.order.first_with.Goals as goal

@@ -2,9 +2,9 @@ use Rattle.std.proofs.Common.{[], ◌∷◌, ◌++◌, codes}
 use Rattle.arz_rules.specs.Sites.{member, at, at_each, before}
 use Rattle.arz_rules.specs.Sets.{bad_text}
 use Rattle.arz_doc.specs.Described.{only, workflows, steps, parameters_of, success_items, failure_items}
-use Rattle.arz_doc.specs.Indexes.{finds}
+use Rattle.arz_components.specs.Indexes.{finds}
 use Rattle.arz_doc.specs.Rules.{is_input, lost_use}
-use Rattle.arz_doc.specs.declared.components.Part.TheVariants.{Parameters, SuccessActions, FailureActions}
+use Rattle.arz_components.specs.declared.components.Part.TheVariants.{Parameters, SuccessActions, FailureActions}
 use Rattle.arz_doc.proofs.Parts.{joined, on_sites}
 use Rattle.arz_doc.proofs.references.first_lost_component.Goals as goal
 

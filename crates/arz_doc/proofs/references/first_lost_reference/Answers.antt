@@ -1,7 +1,7 @@
 use Rattle.std.proofs.Common.{◌++◌}
 use Rattle.arz_rules.specs.Sites.{at}
 use Rattle.arz_doc.specs.Described.{workflows}
-use Rattle.arz_doc.specs.Indexes.{finds}
+use Rattle.arz_components.specs.Indexes.{finds}
 use Rattle.arz_doc.specs.Rules.{lost_names_with, lost_steps_of, lost_components, is_workflow, is_source}
 use Rattle.arz_doc.proofs.Parts.{joined}
 use Rattle.arz_doc.proofs.references.first_lost_reference.Goals as goal

@@ -2,9 +2,9 @@ use Rattle.std.proofs.Common.{◌++◌, codes}
 use Rattle.arz_rules.specs.Sites.{at, at_each}
 use Rattle.arz_rules.specs.Sets.{has, bad_text}
 use Rattle.arz_doc.specs.Described.{only, success_items, failure_items, unless_reuse}
-use Rattle.arz_doc.specs.Indexes.{finds}
+use Rattle.arz_components.specs.Indexes.{finds}
 use Rattle.arz_doc.specs.Rules.{wrong_use, goes_to}
-use Rattle.arz_doc.specs.declared.components.Part.TheVariants.{SuccessActions, FailureActions}
+use Rattle.arz_components.specs.declared.components.Part.TheVariants.{SuccessActions, FailureActions}
 use Rattle.arz_doc.proofs.Parts.{joined, on_sites}
 use Rattle.arz_doc.proofs.references.first_lost_step.Goals as goal
 

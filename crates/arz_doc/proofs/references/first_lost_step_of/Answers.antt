@@ -1,7 +1,7 @@
 use Rattle.std.proofs.Common.{◌≡◌, ◌∙◌}
 use Rattle.arz_rules.specs.Place.{least}
 use Rattle.arz_rules.specs.Sets.{has}
-use Rattle.arz_doc.specs.Indexes.{finds}
+use Rattle.arz_components.specs.Indexes.{finds}
 use Rattle.arz_doc.specs.Rules.{lost_steps, lost_steps_of}
 use Rattle.arz_doc.proofs.references.first_lost_step_of.Goals as goal
 

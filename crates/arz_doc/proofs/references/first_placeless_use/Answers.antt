@@ -1,9 +1,9 @@
 use Rattle.std.proofs.Common.{◌++◌}
 use Rattle.arz_rules.specs.Sites.{at}
 use Rattle.arz_doc.specs.Described.{workflows, steps, parameters_of}
-use Rattle.arz_doc.specs.Indexes.{finds}
+use Rattle.arz_components.specs.Indexes.{finds}
 use Rattle.arz_doc.specs.Rules.{wrong_use, has_place, unless_flow}
-use Rattle.arz_doc.specs.declared.components.Part.TheVariants.{Parameters}
+use Rattle.arz_components.specs.declared.components.Part.TheVariants.{Parameters}
 use Rattle.arz_doc.proofs.Parts.{joined}
 use Rattle.arz_doc.proofs.references.first_placeless_use.Goals as goal
 

@@ -2,7 +2,7 @@ use Rattle.std.proofs.Common.{◌++◌}
 use Rattle.arz_rules.specs.Sites.{at}
 use Rattle.arz_doc.specs.Described.{workflows, steps, parameters_of, each_component, unless_reuse}
 use Rattle.arz_doc.specs.Rules.{bad_header, unless_flow}
-use Rattle.arz_doc.specs.declared.components.Part.TheVariants.{Parameters}
+use Rattle.arz_components.specs.declared.components.Part.TheVariants.{Parameters}
 use Rattle.arz_doc.proofs.Parts.{joined}
 use Rattle.arz_doc.proofs.requests.first_bad_header.Goals as goal
 

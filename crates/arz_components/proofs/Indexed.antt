@@ -8,8 +8,8 @@ use Rattle.std.specs.Ordering.{nat_cmp}
 use Rattle.arz_json.specs.declared.tree.Json.{Json}
 use Rattle.arz_json.specs.declared.tree.Member.{Member}
 use Rattle.arz_json.specs.Pointer.{member_named as named}
-use Rattle.arz_doc.specs.Indexes.{found_in}
-use Rattle.arz_doc.proofs.Parts.{rest_of}
+use Rattle.arz_components.specs.Indexes.{found_in}
+use Rattle.arz_components.proofs.Lists.{rest_of}
 
 put : (b : Bool) (v : Bor Json) (o : Option (Bor Json)) → option_map (λ j. j.now) (cond b (Some v) o) ≡ cond b (Some v.now) (option_map (λ j. j.now) o)
 put true v o = refl

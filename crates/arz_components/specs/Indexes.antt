@@ -5,9 +5,9 @@ use Rattle.std.specs.Ordering.{nat_cmp}
 use Rattle.std.specs.BTreeMap.{BTreeMap, get_by}
 use denote.Ref.{Bor}
 use Rattle.arz_json.specs.declared.tree.Json.{Json}
-use Rattle.arz_doc.specs.declared.components.Components.{Components}
-use Rattle.arz_doc.specs.declared.components.Part.{Part}
-use Rattle.arz_doc.specs.declared.components.Part.TheVariants.{Inputs, Parameters, SuccessActions, FailureActions}
+use Rattle.arz_components.specs.declared.components.Components.{Components}
+use Rattle.arz_components.specs.declared.components.Part.{Part}
+use Rattle.arz_components.specs.declared.components.Part.TheVariants.{Inputs, Parameters, SuccessActions, FailureActions}
 
 abbrev pub found_in : BTreeMap (Bor (List ℕ)) (Bor Json) → List ℕ → Option Json
 found_in m q = option_map (λ j. j.now) (get_by (λ k. slice_cmp nat_cmp q k.now) m)

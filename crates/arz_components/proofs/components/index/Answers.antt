@@ -1,7 +1,7 @@
 use Rattle.std.proofs.Common.{rules, arith, refl}
 use Rattle.std.proofs.lemmas.Map.Text.{btree_map_updates_str}
-use Rattle.arz_doc.proofs.Indexed.{index_step}
-use Rattle.arz_doc.proofs.components.index.Goals as goal
+use Rattle.arz_components.proofs.Indexed.{index_step}
+use Rattle.arz_components.proofs.components.index.Goals as goal
 
 pub loop-k-preserved : goal.loop-k-preserved
 loop-k-preserved c =

@@ -1,12 +1,9 @@
-// Components, and the reusable objects that stand for them.
+// Components by their names.
 ghost use Rattle.std.specs.Prelude.{◌≡◌, IfOk, ℕ, List, option_map};
-ghost use Rattle.std.specs.Option.{option_copied};
 ghost use Rattle.arz_json.specs.Pointer.{member_named};
-ghost use Rattle.arz_rules.specs.Sites.{text_named as text_under};
-ghost use Rattle.arz_doc.specs.Described.{part_name, component, is_reuse as reuse, reused_name as name_reused, actual as stands, runs_workflow as flow_step};
-ghost use Rattle.arz_doc.specs.Indexes.{found_in, finds};
+ghost use Rattle.arz_components.specs.Described.{part_name, component};
+ghost use Rattle.arz_components.specs.Indexes.{found_in, finds};
 
-use crate::texts::referred;
 use arz_json::{Json, Member, members_at};
 use std::alloc::{AllocError, Global};
 use std::collections::BTreeMap;
@@ -21,6 +18,7 @@ pub enum Part {
 }
 
 impl Part {
+    /// The name of the member that holds the part.
     pub fn name(self) -> &'static str
         ensures { result.now ≡ part_name self }
     {
@@ -99,46 +97,4 @@ impl<'a> Components<'a> {
         };
         map.get(name).copied()
     }
-}
-
-/// The text under a member's name.
-pub fn text_of<'a>(tree: &'a Json, name: &str) -> Option<&'a str>
-    ensures { option_map (λ t. t.now) result ≡ text_under name.now tree.now }
-{
-    tree.get(name)?.as_text()
-}
-
-/// Whether an item is a reusable object (Arazzo 1.0.1, section 4.6.10).
-pub fn is_reuse(item: &Json) -> bool
-    ensures { result ≡ reuse item.now }
-{
-    item.get("reference").is_some()
-}
-
-/// Whether a step runs a workflow (Arazzo 1.0.1, section 4.6.5).
-pub fn runs_workflow(step: &Json) -> bool
-    ensures { result ≡ flow_step step.now }
-{
-    step.get("workflowId").is_some()
-}
-
-/// The name to which a reusable object of this part refers.
-pub fn reused_name<'a>(part: Part, item: &'a Json) -> Option<&'a str>
-    ensures { option_map (λ t. t.now) result ≡ name_reused part item.now }
-{
-    referred(part.name(), text_of(item, "reference")?)
-}
-
-/// The item itself, or the component that stands in its place.
-pub fn actual<'a: 'i, 'i>(
-    components: &Components<'a>,
-    part: Part,
-    item: &'i Json,
-) -> Option<&'i Json>
-    ensures { option_map (λ j. j.now) result ≡ stands (finds components.now) part item.now }
-{
-    if !is_reuse(item) {
-        return Some(item);
-    }
-    components.find(part, reused_name(part, item)?)
 }
