@@ -1,0 +1,5 @@
+mod FewBytes
+mod Talking
+mod Hearing
+mod Calls
+mod Conversing
