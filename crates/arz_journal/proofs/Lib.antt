@@ -2,5 +2,6 @@ mod Appended
 mod Begins
 mod Firsts
 mod Puts
+pub mod Nexts
 mod Staged
 mod Walks

@@ -7,7 +7,7 @@ use Rattle.std.proofs.lemmas.Bool.{cases_lt, lt-ltb, le-ltb}
 use Rattle.std.proofs.lemmas.Nat.{from_be_bytes-to_be_bytes_4}
 use Rattle.arz_wire.specs.Entries.{entry_of}
 use Rattle.arz_wire.specs.declared.entry.Entry.{Entry}
-use Rattle.arz_journal.specs.Journal.{magic, Recovered, whole, payload_length, read_entry, entry_then, from_gate, recovered, counted, block, AreBlocks, IsFront}
+use Rattle.arz_journal.specs.Journal.{magic, Recovered, whole, payload_length, read_entry, entry_then, entries_then, from_gate, recovered, counted, block, AreBlocks, IsFront}
 
 pub skips : (skip at : ℕ) (bytes : List ℕ) → from_gate at skip bytes ≡ from_gate (at + skip) 0 (drop skip bytes)
 skips zero at [] = refl
@@ -58,10 +58,6 @@ module _ (at : ℕ) (payload rest : List ℕ) (entry : Entry) (spells : entry_of
       ap G long
       ∙ ap (λ (o : Option Entry). entry_then at o (from_gate (at + 1) (4 + length payload) (counted payload ++ rest))) is_entry
       ∙ ap (λ (r : Recovered). entry_then at (Some entry) r) goes_on
-
--- these entries, and then what follows
-abbrev pub entries_then : List Entry → Recovered → Recovered
-entries_then entries more = record { entries = entries ++ more.entries; broken = more.broken }
 
 pub blocks_then : (entries : List Entry) (bytes tail : List ℕ) (at : ℕ) → AreBlocks entries bytes → 0 < length tail → from_gate at 0 (bytes ++ tail) ≡ entries_then entries (from_gate (at + length bytes) 0 tail)
 blocks_then [] bytes tail at none next =

@@ -23,6 +23,14 @@ pub record Recovered : Type 0 where
 abbrev pub whole : List Entry → Recovered
 whole entries = record { entries = entries; broken = None }
 
+-- from this place on it is no journal
+abbrev pub broken_at : ℕ → Recovered
+broken_at at = record { entries = []; broken = Some at }
+
+-- these entries, and then what follows
+abbrev pub entries_then : List Entry → Recovered → Recovered
+entries_then entries more = record { entries = entries ++ more.entries; broken = more.broken }
+
 -- Behind an open gate stand the number of the payload's bytes, in four bytes, big-endian, and the payload.
 abbrev pub payload_length : List ℕ → ℕ
 payload_length bytes = from_be_bytes w32 (take 4 bytes)

@@ -1,13 +1,15 @@
 -- Where a log stands in the file of a world.
-use Rattle.std.specs.Prelude.{◌≡◌, ◌≢◌, ◌⊎◌, ◌+◌, ◌≤◌, ◌<◌, ◌^◌, ℕ, Bool, true, false, List, [], ◌∷◌, ◌++◌, length, IsTrue, Result, Ok, Err}
+use Rattle.std.specs.Prelude.{◌≡◌, ◌≢◌, ◌⊎◌, ◌+◌, ◌≤◌, ◌<◌, ◌^◌, ℕ, Bool, true, false, List, [], ◌∷◌, ◌++◌, length, drop, IsTrue, Result, Ok, Err}
+use Rattle.std.specs.Int.{w32, to_be_bytes}
+use Rattle.std.specs.declared.option.Option.{Option}
 use Rattle.arz_wire.specs.Entries.{entry_of}
 use Rattle.arz_wire.specs.declared.entry.Entry.{Entry}
-use Rattle.std.specs.declared.option.Option.TheVariants.{Some}
+use Rattle.std.specs.declared.option.Option.TheVariants.{None, Some}
 use Rattle.arz_world.specs.Moments.{EachMoment}
 use Rattle.arz_world.specs.World.{WorldView, IsStable, IsImage, NoNewImage, Later, talks}
 use Rattle.arz_world.specs.declared.world.DiskFault.{DiskFault}
 use Rattle.arz_world.specs.declared.world.DiskFault.TheVariants as disk
-use Rattle.arz_journal.specs.Journal.{IsFront, counted, recovered, whole, ahead}
+use Rattle.arz_journal.specs.Journal.{IsFront, counted, block, recovered, whole, broken_at, entry_then, ahead}
 use Rattle.arz_journal.specs.declared.log.JournalFault.{JournalFault}
 use Rattle.arz_journal.specs.declared.log.JournalFault.TheVariants as journal
 
@@ -90,3 +92,55 @@ FirstGate file (Ok true) = IsNothing file
 FirstGate file (Ok false) = IsAt 8 false file × (recovered file ≡ ahead file 8) × (recovered file ≢ whole [])
 FirstGate file (Err (journal.NotAJournal at)) = recovered file ≡ record { entries = []; broken = Some 0 }
 FirstGate file (Err _) = Unit {0}
+
+-- a closed gate stands at a place
+pub record IsShut (file : List ℕ) (place : ℕ) : Type 0 where
+  pub gate : ℕ
+  pub behind : List ℕ
+  pub file_is : drop place file ≡ gate ∷ behind
+  pub closed : gate ≢ 1
+
+-- an open gate stands at a place, and behind it the number of the payload's bytes
+pub record IsCounted (file : List ℕ) (place count : ℕ) : Type 0 where
+  pub behind : List ℕ
+  pub file_is : drop place file ≡ 1 ∷ (to_be_bytes w32 count ++ behind)
+
+-- at a place stands the block of an entry, and a gate at the place behind it
+pub record IsBlock (file : List ℕ) (place : ℕ) (entry : Entry) (next : ℕ) : Type 0 where
+  pub payload : List ℕ
+  pub rest : List ℕ
+  pub file_is : drop place file ≡ block payload ++ rest
+  pub spells : entry_of payload ≡ Ok entry
+  pub small : length payload < 2 ^ 32
+  pub gate : 0 < length rest
+  pub next_is : next ≡ place + length (block payload)
+
+-- from this place on the file is no journal
+abbrev pub IsBroken : List ℕ → ℕ → ℕ → Type 0
+IsBroken file place at = (at ≡ place) × (ahead file place ≡ broken_at place)
+
+-- what a gate says: it is closed, or so many bytes of a payload follow, or it is no journal's
+abbrev pub GateSays : List ℕ → ℕ → Result (Option ℕ) JournalFault → Type 0
+GateSays file place (Ok None) = IsShut file place
+GateSays file place (Ok (Some count)) = IsCounted file place count
+GateSays file place (Err (journal.NotAJournal at)) = IsBroken file place at
+GateSays file place (Err _) = Unit {0}
+
+-- the payload stands at the front of these bytes, and a gate behind it
+abbrev pub IsFollowed : List ℕ → List ℕ → Type 0
+IsFollowed behind payload = (rest : List ℕ) × (behind ≡ payload ++ rest) × (0 < length rest)
+
+-- what stands at a gate: an entry and the gate behind it, or none, or no journal
+abbrev pub BlockSays : List ℕ → ℕ → Result (Option (Entry × ℕ)) JournalFault → Type 0
+BlockSays file place (Ok None) = IsShut file place
+BlockSays file place (Ok (Some found)) = IsBlock file place found.0 found.1
+BlockSays file place (Err (journal.NotAJournal at)) = IsBroken file place at
+BlockSays file place (Err _) = Unit {0}
+
+-- What is read next of a file, where a log goes from one place to another: the first of the entries ahead of
+-- it, with the others ahead of its new place; or that none is ahead; or that it is no journal from there on.
+abbrev pub ReadsNext : List ℕ → ℕ → ℕ → Result (Option Entry) JournalFault → Type 0
+ReadsNext file old new (Ok None) = ahead file old ≡ whole []
+ReadsNext file old new (Ok (Some entry)) = ahead file old ≡ entry_then old (Some entry) (ahead file new)
+ReadsNext file old new (Err (journal.NotAJournal at)) = IsBroken file old at
+ReadsNext file old new (Err _) = Unit {0}

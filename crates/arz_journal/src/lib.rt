@@ -4,5 +4,6 @@
 mod attach;
 mod block;
 mod log;
+mod reading;
 
 pub use log::{JournalFault, Log};

@@ -1,16 +1,18 @@
 // A log.
 ghost use Rattle.std.specs.Prelude.{◌≡◌, ◌≢◌, ◌⊎◌, ◌↔◌, ◌+◌, ◌≤◌, ◌<◌, ◌^◌, ◌++◌, ◌∷◌, [], not, ℕ, Ok, Err, length, IfOk, OnOk, OnErr, IsTrue, true, false};
 ghost use Rattle.arz_wire.specs.declared.entry.Entry.{Entry};
+ghost use Rattle.arz_wire.specs.Entries.{entry_spelling};
 ghost use Rattle.arz_world.specs.Outside.{Rose};
 ghost use Rattle.arz_world.specs.World.{talks, Later};
 ghost use Rattle.arz_world.specs.Moments.{EachMoment};
 ghost use Rattle.arz_journal.specs.Journal.{recovered, whole, ahead, payload, Spells, IsBeforeOrAfter};
-ghost use Rattle.arz_journal.specs.Logs.{LogView, Ready, Stands, Looks};
-ghost use Rattle.std.specs.declared.option.Option.TheVariants.{Some};
+ghost use Rattle.arz_journal.specs.Logs.{LogView, Ready, Stands, Looks, ReadsNext};
+ghost use Rattle.std.specs.declared.option.Option.TheVariants.{None, Some};
 
 use crate::attach::{barrier, first_gate};
 use crate::block::{fill_buffer, is_full, mark_bytes, put_block, put_first};
-use arz_wire::Mark;
+use crate::reading::entry_at;
+use arz_wire::{Entry, Mark};
 use arz_world::{DiskFault, World};
 use std::alloc::{AllocError, Global};
 use std::marker::Model;
@@ -63,6 +65,7 @@ impl From<AllocError> for JournalFault {
 /// see it as a `LogView`.
 #[derive(Drop)]
 pub struct Log {
+    alloc: Global,
     place: u64,
     buffer: Vec<u8>,
     is_new: bool,
@@ -110,6 +113,7 @@ impl Log {
         let size = barrier(world, path)?;
         let is_new = first_gate(world, size)?;
         Ok(Log {
+            alloc,
             place: 8,
             buffer: Vec::new(alloc),
             is_new,
@@ -124,6 +128,65 @@ impl Log {
         ensures { result ≡ self.now.is_new }
     {
         self.is_new
+    }
+
+    /// The place of the log's gate in the file, in bytes. At its end that gate is closed.
+    pub fn place(&self) -> u64
+        ensures { result ≡ self.now.place }
+    {
+        self.place
+    }
+
+    /// The next entry, in the order in which they were added; none where the log's gate is closed, and then the
+    /// log is at its end. Before the first call on a log that is not new every entry of the file is ahead of it.
+    /// It takes the memory of one entry, and none for a payload that the file is too short for. `NotAJournal` comes
+    /// where the gate is open, and the number behind it, the payload or the next gate is not in the file, or the
+    /// payload is no entry's. After `Disk` the log must be attached anew, and after any other fault it is as before.
+    pub fn next<W: World>(&mut self, world: &mut W) -> Result<Option<Entry>, JournalFault>
+        requires ready { Ready self.old (W.told world.old) }
+        requires opened { self.old.is_spent ≡ false → self.old.is_open ≡ true }
+
+        ensures reads { self.old.is_spent ≡ false → IsTrue (W.told world.old).tells → ReadsNext (W.told world.old).file self.old.place self.new.place result }
+        ensures ready { Ready self.new (W.told world.new) }
+
+        // At each moment of it, each image is one of those of the beginning.
+        ensures looks { Looks (W.told world.old) (W.told world.new) }
+        ensures path { (W.told world.new).attached ≡ (W.told world.old).attached }
+        ensures ended { self.old.is_spent ≡ false → self.old.is_ended ≡ true → (result ≡ Ok None) × (world.new ≡ world.old) }
+
+        ensures disk { result ≡ Err JournalFault.Disk → Rose (W.told world.old).disk_faults (W.told world.new).disk_faults }
+        ensures spent { result ≡ Err JournalFault.Spent ↔ (self.old.is_spent ≡ true) }
+        ensures untouched { result ≡ Err JournalFault.Spent → world.new ≡ world.old }
+        ensures not_full { result ≢ Err JournalFault.Full }
+        ensures broken { (at : ℕ) → result ≡ Err (JournalFault.NotAJournal at) → at ≡ self.old.place }
+
+        // The log goes on behind the entry, is at its end, or is spent.
+        ensures entry { (entry : Entry) → result ≡ Ok (Some entry) → self.new ≡ record self.old { place = self.old.place + 5 + length (entry_spelling entry) } }
+        ensures end { result ≡ Ok None → self.new ≡ record self.old { is_ended = true } }
+        ensures err { OnErr result (result ≢ Err JournalFault.Disk → self.new ≡ self.old) }
+        ensures err_disk { result ≡ Err JournalFault.Disk → self.new ≡ record self.old { is_spent = true } }
+    {
+        if self.is_spent {
+            return Err(JournalFault::Spent);
+        }
+        if self.is_ended {
+            return Ok(None);
+        }
+        match entry_at(self.alloc, world, self.place) {
+            Ok(Some((entry, place))) => {
+                self.place = place;
+                Ok(Some(entry))
+            }
+            Ok(None) => {
+                self.is_ended = true;
+                Ok(None)
+            }
+            Err(JournalFault::Disk) => {
+                self.is_spent = true;
+                Err(JournalFault::Disk)
+            }
+            Err(fault) => Err(fault),
+        }
     }
 
     /// Makes room for blocks of this many bytes: a block has five bytes more than its payload.
