@@ -1,3 +1,4 @@
 pub mod Reports
 pub mod Paths
 pub mod Selections
+pub mod Journals

@@ -1,13 +1,15 @@
 //! The libraries from the command line, for conformance runs and benchmarks: the wire form of JSON
-//! trees by `wire FILE` and `unwire FILE`, queries of JSONPath by `path FILE QUERY`, and the mapping of
-//! I-Regexps by `iregexp [--whole] TEXT`.
+//! trees by `wire FILE` and `unwire FILE`, queries of JSONPath by `path FILE QUERY`, the mapping of
+//! I-Regexps by `iregexp [--whole] TEXT`, and the entries of a journal by `journal FILE`.
 #![tactic(auto)]
 
+mod journals;
 mod paths;
 mod query_report;
 mod report;
 
 use arz_real::RegexPatterns;
+use journals::journal_report;
 use query_report::{iregexp_report, path_report};
 use report::{Report, file_report, unwire_report, wire_report, words_report};
 use std::alloc::AllocError;
@@ -42,6 +44,7 @@ fn answered(rt: &HostRuntime) -> Result<Report, AllocError> {
         [mode, flag, text] if mode.as_str() == "iregexp" && flag.as_str() == "--whole" => {
             iregexp_report(rt.alloc(), text.as_str(), true)
         }
+        [mode, path] if mode.as_str() == "journal" => journaled(rt, path.as_str()),
         _ => words_report(rt.alloc()),
     }
 }
@@ -56,6 +59,13 @@ fn wired(rt: &HostRuntime, path: &str) -> Result<Report, AllocError> {
 fn unwired(rt: &HostRuntime, path: &str) -> Result<Report, AllocError> {
     match contents(rt, path)? {
         Some(bytes) => unwire_report(rt.alloc(), bytes.as_slice()),
+        None => file_report(rt.alloc(), path),
+    }
+}
+
+fn journaled(rt: &HostRuntime, path: &str) -> Result<Report, AllocError> {
+    match contents(rt, path)? {
+        Some(bytes) => journal_report(rt.alloc(), bytes),
         None => file_report(rt.alloc(), path),
     }
 }
