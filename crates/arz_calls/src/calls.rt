@@ -1,21 +1,29 @@
 // The calls that cases name.
-use crate::styles;
+use crate::{journals, styles, wires};
 use arz_cases::{Case, CaseFault, Outcome};
 use std::alloc::Global;
 
 /// What a case calls.
 #[derive(Clone, Copy, Debug, PartialEq, Eq)]
 pub enum LibraryCall {
-    Style,
+    Decode,
     Form,
+    Journal,
+    Style,
+    Unwire,
+    Wire,
 }
 
 impl LibraryCall {
     /// The call with this name.
     pub fn named(name: &str) -> Option<LibraryCall> {
         Some(match name {
-            "style" => LibraryCall::Style,
+            "decode" => LibraryCall::Decode,
             "form" => LibraryCall::Form,
+            "journal" => LibraryCall::Journal,
+            "style" => LibraryCall::Style,
+            "unwire" => LibraryCall::Unwire,
+            "wire" => LibraryCall::Wire,
             _ => return None,
         })
     }
@@ -23,8 +31,12 @@ impl LibraryCall {
     /// What the call comes to over what the case describes.
     pub fn outcome(self, alloc: Global, case: &Case<'_>) -> Result<Outcome, CaseFault> {
         match self {
-            LibraryCall::Style => styles::style(alloc, case),
+            LibraryCall::Decode => wires::decode(alloc, case),
             LibraryCall::Form => styles::form(alloc, case),
+            LibraryCall::Journal => journals::journal(alloc, case),
+            LibraryCall::Style => styles::style(alloc, case),
+            LibraryCall::Unwire => wires::unwire(alloc, case),
+            LibraryCall::Wire => wires::wire(alloc, case),
         }
     }
 }

@@ -2,6 +2,8 @@
 #![tactic(auto)]
 
 mod calls;
+mod journals;
 mod styles;
+mod wires;
 
 pub use calls::LibraryCall;

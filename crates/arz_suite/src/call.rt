@@ -1,5 +1,5 @@
 // The calls that cases name.
-use crate::{expressions, messages, outside, patterns, queries, requests, top, trees, wires};
+use crate::{expressions, messages, outside, patterns, queries, requests, top, trees};
 use arz_calls::LibraryCall;
 use arz_cases::{Case, CaseFault, Outcome};
 use std::alloc::Global;
@@ -13,9 +13,6 @@ pub enum Call {
     Any,
     Compare,
     Found,
-    Wire,
-    Unwire,
-    Decode,
     Expression,
     Value,
     Fill,
@@ -50,9 +47,6 @@ impl Call {
             "any" => Call::Any,
             "compare" => Call::Compare,
             "found" => Call::Found,
-            "wire" => Call::Wire,
-            "unwire" => Call::Unwire,
-            "decode" => Call::Decode,
             "expression" => Call::Expression,
             "value" => Call::Value,
             "fill" => Call::Fill,
@@ -92,9 +86,6 @@ impl Call {
             Call::Any => queries::any(alloc, case),
             Call::Compare => queries::compare(alloc, case),
             Call::Found => queries::found(alloc, case),
-            Call::Wire => wires::wire(alloc, case),
-            Call::Unwire => wires::unwire(alloc, case),
-            Call::Decode => wires::decode(alloc, case),
             Call::Expression => expressions::expression(alloc, case),
             Call::Value => expressions::value(alloc, case),
             Call::Fill => expressions::fill(alloc, case),

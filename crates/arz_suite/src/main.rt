@@ -13,7 +13,6 @@ mod requests;
 mod table;
 mod top;
 mod trees;
-mod wires;
 
 use std::process::ExitCode;
 use std::{env, io};

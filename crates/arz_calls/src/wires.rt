@@ -48,7 +48,8 @@ pub fn decode(alloc: Global, case: &Case<'_>) -> Result<Outcome, CaseFault> {
     }
 }
 
-fn entry_words(alloc: Global, entry: &Entry) -> Result<String, CaseFault> {
+/// An entry in words.
+pub fn entry_words(alloc: Global, entry: &Entry) -> Result<String, CaseFault> {
     Ok(match entry {
         Entry::Start(tree) => format!(in alloc; "Start {}", brief(alloc, tree)?)?,
         Entry::Begun(number) => format!(in alloc; "Begun {number}")?,
