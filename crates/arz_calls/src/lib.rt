@@ -3,6 +3,7 @@
 
 mod calls;
 mod journals;
+mod replies;
 mod styles;
 mod wires;
 
