@@ -7,3 +7,5 @@ pub mod Forms
 pub mod Changes
 pub mod Grouped
 pub mod Removals
+pub mod Targets
+pub mod FirstTargets

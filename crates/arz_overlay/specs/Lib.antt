@@ -6,3 +6,5 @@ pub mod Members
 pub mod Faults
 pub mod Groups
 pub mod Actions
+pub mod Documents
+pub mod Applied

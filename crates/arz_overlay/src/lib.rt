@@ -1,10 +1,15 @@
-//! Overlays (Overlay 1.0.0): merging the update of an action into a tree at a place, and removing a set of
+//! Overlays (Overlay 1.0.0): reading an overlay document, and applying it to a tree.
+//!
+//! The parts of it are here too: merging the update of an action into a tree at a place, and removing a set of
 //! places, each in time that doesn't grow with what stays as it is.
 #![tactic(auto)]
 
 mod changing;
 mod children;
+mod document;
+mod fault;
 mod groups;
+pub mod laws;
 mod looking;
 mod members;
 mod merging;
@@ -12,6 +17,8 @@ mod removing;
 mod tally;
 
 pub use changing::{ChangeFault, update_at};
+pub use document::Overlay;
+pub use fault::OverlayFault;
 pub use groups::Way;
 pub use looking::{removal_rule_of, standing};
 pub use merging::merged;
