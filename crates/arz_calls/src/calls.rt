@@ -1,5 +1,5 @@
 // The calls that cases name.
-use crate::{journals, replies, styles, wires};
+use crate::{descriptions, journals, replies, styles, wires};
 use arz_cases::{Case, CaseFault, Outcome};
 use std::alloc::Global;
 
@@ -8,6 +8,7 @@ use std::alloc::Global;
 pub enum LibraryCall {
     Converse,
     Decode,
+    Description,
     Form,
     Journal,
     Reply,
@@ -24,6 +25,7 @@ impl LibraryCall {
         Some(match name {
             "converse" => LibraryCall::Converse,
             "decode" => LibraryCall::Decode,
+            "description" => LibraryCall::Description,
             "form" => LibraryCall::Form,
             "journal" => LibraryCall::Journal,
             "reply" => LibraryCall::Reply,
@@ -41,6 +43,7 @@ impl LibraryCall {
         match self {
             LibraryCall::Converse => replies::conversation(alloc, case),
             LibraryCall::Decode => wires::decode(alloc, case),
+            LibraryCall::Description => descriptions::description(alloc, case),
             LibraryCall::Form => styles::form(alloc, case),
             LibraryCall::Journal => journals::journal(alloc, case),
             LibraryCall::Reply => replies::reply(alloc, case),

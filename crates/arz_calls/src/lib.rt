@@ -2,6 +2,7 @@
 #![tactic(auto)]
 
 mod calls;
+mod descriptions;
 mod journals;
 mod replies;
 mod styles;

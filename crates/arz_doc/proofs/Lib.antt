@@ -2,3 +2,4 @@ pub mod Expressions
 pub mod Parts
 pub mod TextLevels
 pub mod Orders
+pub mod Numbered

@@ -9,6 +9,7 @@
 //! | 6 | what tells the items of a list apart stands a second time |
 //! | 7 | members of a step or of an action exclude each other |
 //! | 8 | a workflow, step, source or component that is named isn't there, or a source is a description of workflows |
+//! | 9 | a workflow depends on itself |
 //! | 10, 11 | the type of a criterion is XPath, or an object |
 //! | 12 | a number isn't kept |
 //! | 13 | a text that must be an expression or an operationPath is none |
@@ -18,9 +19,11 @@
 
 mod checks;
 mod criteria;
+mod cycles;
 mod duplicates;
 mod exclusive;
 mod guards;
+pub mod laws;
 mod limits;
 mod names;
 mod order;

@@ -1,13 +1,15 @@
 // The rules in order.
-ghost use Rattle.std.specs.Prelude.{◌≡◌, true, codes, IfOk, option_map};
+ghost use Rattle.std.specs.Prelude.{◌≡◌, ℕ, Bool, true, codes, IfOk, option_map};
 ghost use Rattle.arz_json.specs.Answer.{Gives};
 ghost use Rattle.arz_json.specs.Tree.{has_form};
 ghost use Rattle.arz_rules.specs.Place.{least, tokens_in};
 ghost use Rattle.arz_rules.specs.Phases.{cause, first_failure, phase};
 ghost use Rattle.arz_components.specs.Indexes.{finds};
+ghost use Rattle.arz_doc.specs.Cycles.{TellsCycles, tells};
 ghost use Rattle.arz_doc.specs.Order.{wrong_shapes, shape_rules, naming_rules, value_rules, sending_rules, name_rules, content_rules, rules_with, rules as rules_of, seen_failure};
 
 use crate::criteria::{first_type_object, first_xpath};
+use crate::cycles::{Cycles, first_circular};
 use crate::duplicates::first_duplicate;
 use crate::exclusive::first_mixture;
 use crate::limits::first_over_limit;
@@ -65,10 +67,11 @@ fn first_of_shape(
 fn first_of_naming(
     alloc: Global,
     components: &Components,
+    cycles: &Cycles,
     root: &Json,
 ) -> Result<Option<Failure>, AllocError>
     requires { has_form root.now ≡ true }
-    ensures { IfOk result (λ f. option_map seen_failure f ≡ first_failure (naming_rules (finds components.now) root.now)) }
+    ensures { IfOk result (λ f. option_map seen_failure f ≡ first_failure (naming_rules (finds components.now) (tells cycles.now) root.now)) }
 {
     if let Some(place) = first_duplicate(alloc, components, root)? {
         return Ok(Some(Failure { rule: 6, place }));
@@ -78,6 +81,9 @@ fn first_of_naming(
     }
     if let Some(place) = first_lost_reference(alloc, components, root)? {
         return Ok(Some(Failure { rule: 8, place }));
+    }
+    if let Some(place) = first_circular(alloc, cycles, root)? {
+        return Ok(Some(Failure { rule: 9, place }));
     }
     Ok(None)
 }
@@ -120,15 +126,16 @@ fn first_of_sending(alloc: Global, root: &Json) -> Result<Option<Failure>, Alloc
 fn first_of_names(
     alloc: Global,
     components: &Components,
+    cycles: &Cycles,
     root: &Json,
 ) -> Result<Option<Failure>, AllocError>
     requires { has_form root.now ≡ true }
-    ensures { IfOk result (λ f. option_map seen_failure f ≡ first_failure (name_rules (finds components.now) root.now)) }
+    ensures { IfOk result (λ f. option_map seen_failure f ≡ first_failure (name_rules (finds components.now) (tells cycles.now) root.now)) }
 {
     if let Some(failure) = first_of_shape(alloc, components, root)? {
         return Ok(Some(failure));
     }
-    let later = first_of_naming(alloc, components, root)?;
+    let later = first_of_naming(alloc, components, cycles, root)?;
     Ok(later)
 }
 
@@ -146,12 +153,13 @@ fn first_of_contents(alloc: Global, root: &Json) -> Result<Option<Failure>, Allo
 fn first_with(
     alloc: Global,
     components: &Components,
+    cycles: &Cycles,
     root: &Json,
 ) -> Result<Option<Failure>, AllocError>
     requires { has_form root.now ≡ true }
-    ensures { IfOk result (λ f. option_map seen_failure f ≡ first_failure (rules_with (finds components.now) root.now)) }
+    ensures { IfOk result (λ f. option_map seen_failure f ≡ first_failure (rules_with (finds components.now) (tells cycles.now) root.now)) }
 {
-    if let Some(failure) = first_of_names(alloc, components, root)? {
+    if let Some(failure) = first_of_names(alloc, components, cycles, root)? {
         return Ok(Some(failure));
     }
     let later = first_of_contents(alloc, root)?;
@@ -162,17 +170,18 @@ fn first_with(
 /// documents.
 pub fn first_refusal(alloc: Global, root: &Json) -> Result<Option<Failure>, AllocError>
     requires { has_form root.now ≡ true }
-    ensures { IfOk result (λ f. option_map seen_failure f ≡ first_failure (rules_of root.now)) }
+    ensures { IfOk result (λ f. (is_cyclic : ℕ → Bool) × TellsCycles root.now is_cyclic × (option_map seen_failure f ≡ first_failure (rules_of is_cyclic root.now))) }
 {
     let components = Components::of(alloc, root)?;
-    let found = first_with(alloc, &components, root)?;
+    let cycles = Cycles::of(alloc, root)?;
+    let found = first_with(alloc, &components, &cycles, root)?;
     Ok(found)
 }
 
 /// Refuses a description that fails a rule by itself: the least rule, at its least place, under the label `arazzo`.
 pub fn check(alloc: Global, root: &Json) -> Result<(), RuleFault>
     requires { has_form root.now ≡ true }
-    ensures { Gives (λ u. u) cause result (phase (codes "arazzo") (rules_of root.now) (Ok tt)) }
+    ensures { (is_cyclic : ℕ → Bool) × TellsCycles root.now is_cyclic × Gives (λ u. u) cause result (phase (codes "arazzo") (rules_of is_cyclic root.now) (Ok tt)) }
 {
     match first_refusal(alloc, root) {
         Ok(Some(failure)) => Err(refuse(alloc, failure.rule, "arazzo", &failure.place)),
