@@ -3,3 +3,4 @@ pub mod Parts
 pub mod TextLevels
 pub mod Orders
 pub mod Numbered
+pub mod OneTest
