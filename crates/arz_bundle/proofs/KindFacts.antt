@@ -1,5 +1,6 @@
 -- What a tree has that meets its kind.
 use Rattle.std.proofs.Common.{◌≡◌, ℕ, zero, suc, ◌<◌, Bool, true, false, ◌&&◌, ◌||◌, List, [], ◌∷◌, ◌++◌, length, map, get_or, cond, Option, Some, None, refl, sym, ap, subst, ◌∙◌, arith, rules}
+use Rattle.std.specs.Prelude.{option_map}
 use Rattle.std.specs.Str.{bytes_eq}
 use Rattle.std.proofs.lemmas.Slice.Eq.{bytes_eq-Decides}
 use Rattle.arz_json.specs.Look.{list_in, list_step, object_in, object_step}
@@ -21,12 +22,13 @@ use Rattle.arz_rules.specs.declared.forms.Others.TheVariants.{Are}
 use Rattle.arz_rules.specs.declared.forms.Size.{Size}
 use Rattle.arz_rules.specs.Misses.{Misses, misses, level_misses, level_of, level_in, chosen, shape_misses, named_misses, object_misses, member_misses, is_complete, has_name, kind_named, list_misses, item_misses, has_size}
 use Rattle.arz_rules.specs.Kinds.{form_of}
-use Rattle.arz_rules.specs.Phases.{Rule, first_failure, failure_or, Failure}
+use Rattle.arz_rules.specs.Phases.{Rule, first_failure, failure_or, Failure, refusal}
 use Rattle.arz_rules.specs.Place.{here_unless, under, least, lesser, tokens_cmp}
 use Rattle.arz_rules.specs.Shapes.{Row}
 use Rattle.arz_rules.proofs.Levels.{misses_level}
 use Rattle.arz_rules.proofs.Places.{least-append}
 use Rattle.std.specs.Ordering.{is_gt}
+use Rattle.arz_bundle.specs.Phases.{told}
 
 pub left : (a b : Bool) → (a && b) ≡ true → a ≡ true
 left true b p = refl
@@ -58,7 +60,7 @@ some-lesser : (p q : List Token) (b : Bool) → cond b (Some q) (Some p) ≡ Non
 some-lesser p q true e = absurd (cc)
 some-lesser p q false e = absurd (cc)
 
-no-lesser : (p : List Token) (o : Option (List Token)) → lesser (Some p) o ≡ None → ⊥
+pub no-lesser : (p : List Token) (o : Option (List Token)) → lesser (Some p) o ≡ None → ⊥
 no-lesser p None e = absurd (cc)
 no-lesser p (Some q) e = some-lesser p q (is_gt (tokens_cmp p q)) e
 
@@ -75,6 +77,14 @@ pub passed : (r : Rule) (rules : List Rule) → first_failure (r ∷ rules) ≡ 
 passed r rules e =
     let by = passed-by r.0 (least r.1) (first_failure rules) e in
     (none-least r.1 by.0, by.1)
+
+-- a phase of one document that tells nothing
+no-refusal : (label : List ℕ) (o : Option Failure) → option_map (refusal label) o ≡ None → o ≡ None
+no-refusal label None e = refl
+no-refusal label (Some f) e = absurd (cc)
+
+pub none-told : (label : List ℕ) (rules : List Rule) → told label rules ≡ None → first_failure rules ≡ None
+none-told label rules e = no-refusal label (first_failure rules) e
 
 -- the least place of three parts
 pub three-least : (ps qs rs : List (List Token)) (p q r : Option (List Token)) → p ≡ least ps → q ≡ least qs → r ≡ least rs → lesser (lesser p q) r ≡ least (ps ++ qs ++ rs)

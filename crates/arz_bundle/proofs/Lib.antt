@@ -1,5 +1,5 @@
-pub mod Expressions
-pub mod FormFacts
+pub mod ComponentForms
+pub mod DescriptionFacts
 pub mod FormPaths
 pub mod KindFacts
 pub mod LoadingLaws

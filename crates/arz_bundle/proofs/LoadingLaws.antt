@@ -1,6 +1,5 @@
 -- Loading comes to something, and what is loaded is valid.
-use Rattle.std.proofs.Common.{◌≡◌, ◌≢◌, ◌⊎◌, inl, inr, ◌≤◌, ℕ, List, [], length, take, codes, Bool, true, false, Option, None, Some, Result, Ok, Err, All, refl, sym, ◌∙◌, ap, subst, ◌+◌}
-use Rattle.std.specs.Prelude.{option_map}
+use Rattle.std.proofs.Common.{◌≡◌, ◌≢◌, ◌⊎◌, inl, inr, ◌≤◌, ℕ, List, [], length, take, codes, Bool, true, false, Option, None, Some, Result, Ok, Err, All, refl, sym, ◌∙◌, subst, ◌+◌}
 use Rattle.std.proofs.lemmas.Bool.{cases_lt}
 use Rattle.std.proofs.lemmas.Str.{IsUtf8-from_is_utf8, is_utf8-from_IsUtf8}
 use Rattle.std.specs.Str.{IsUtf8, is_utf8}
@@ -11,19 +10,18 @@ use Rattle.arz_json.specs.Tree.{IsWithin}
 use Rattle.arz_json.specs.declared.Json.{Json}
 use Rattle.arz_json.specs.declared.Refusal.{Refusal}
 use Rattle.arz_json.proofs.Forms.{IsWithin-Reads}
-use Rattle.arz_rules.specs.Phases.{Rule, Failure, refusal, first_failure}
+use Rattle.arz_rules.specs.Phases.{refusal}
 use Rattle.arz_world.specs.Outside.{FilesView, ReadsAs, Told}
-use Rattle.arz_world.specs.declared.Reply.{Reply}
 use Rattle.arz_flow.specs.declared.bundle.Bundle.{Bundle}
 use Rattle.arz_flow.specs.Valid.{IsValid}
 use Rattle.arz_bundle.specs.declared.fault.LoadFault.{LoadFault}
 use Rattle.arz_bundle.specs.declared.fault.LoadFault.TheVariants.{File, Refused, Memory}
-use Rattle.arz_bundle.specs.FileRules.{setup_rules, description_rules, naming_rules, source_rules, replies_rules}
 use Rattle.arz_bundle.specs.Laws.{MissingFail, LoadsSome, GivesSome, LoadsValid, GivesStatuses}
-use Rattle.arz_bundle.specs.Loading.{told, file_limit, IsFile, NoFile, Tells, Judged, Reading, source_name, source_path, FromSource, FromNames, FromDescription}
+use Rattle.arz_bundle.specs.Loading.{file_limit, IsFile, NoFile, Tells, Judged, Reading, source_name, source_label, source_path, AfterSource, FromSource, AfterDescription, FromDescription, AfterSetup, AfterReplies}
+use Rattle.arz_doc.proofs.Numbered.{some_test}
+use Rattle.arz_bundle.specs.Phases.{setup_told, description_told, IsDescribed, unbuilt_told, source_told, replies_told}
 use Rattle.arz_bundle.specs.Replies.{HasStatus, replies_of}
 use Rattle.arz_bundle.specs.Setup.{description_path, bundle_of}
-use Rattle.arz_bundle.proofs.Stages.{Makes, MakesReplies, source_label}
 use Rattle.arz_bundle.proofs.ValidBundles.{valid-bundle, reply-items, statuses}
 
 -- ---- whether bytes are a file with a tree
@@ -80,14 +78,14 @@ module _ {A : Type 0} where
   tells-some (Some r) Next some = (Err (Refused r), refl, refused-some r)
   tells-some None Next some = some
 
-module _ {A : Type 0} (label : List ℕ) (rules : Json → List Rule) (Next : Json → Result A LoadFault → Type 0) (some : (tree : Json) → IsSome (Next tree)) where
-  judged-by : (bytes : List ℕ) → Tree label bytes → IsSome (Judged label rules Next bytes)
+module _ {A : Type 0} (label : List ℕ) (Next : Json → Result A LoadFault → Type 0) (some : (tree : Json) → IsSome (Next tree)) where
+  judged-by : (bytes : List ℕ) → Tree label bytes → IsSome (Judged label Next bytes)
   judged-by bytes (inl (tree, file)) =
-      let x = tells-some (told label (rules tree)) (Next tree) (some tree) in
+      let x = some tree in
       (x.0, inl (tree, file, x.1), x.2)
   judged-by bytes (inr (r, none)) = (Err (Refused r), inr (r, none, refl), refused-some r)
 
-  by-told : (before now : FilesView) (path : List ℕ) → MissingFail before now → (t : Told) → before.told path ≡ t → IsSome (Reading before now path label rules Next)
+  by-told : (before now : FilesView) (path : List ℕ) → MissingFail before now → (t : Told) → before.told path ≡ t → IsSome (Reading before now path label Next)
   by-told before now path missing None e =
       let x = judged-by [] (tree-or-not label []) in (x.0, inl ([], subst (λ t. ReadsAs t file_limit []) (sym e) tt, x.1), x.2)
   by-told before now path missing (Some None) e = (Err (File path), inr (inl (missing path e, refl)), failed-some path)
@@ -96,30 +94,39 @@ module _ {A : Type 0} (label : List ℕ) (rules : Json → List Rule) (Next : Js
       let x = judged-by bytes (tree-or-not label bytes) in
       (x.0, inl (bytes, subst (λ t. ReadsAs t file_limit bytes) (sym e) refl, x.1), x.2)
 
-  reading-some : (before now : FilesView) (path : List ℕ) → MissingFail before now → IsSome (Reading before now path label rules Next)
+  reading-some : (before now : FilesView) (path : List ℕ) → MissingFail before now → IsSome (Reading before now path label Next)
   reading-some before now path missing = by-told before now path missing (before.told path) refl
 
 module _ (before now : FilesView) (missing : MissingFail before now) where
   source-some : (setup description : Json) → IsSome (FromSource before now setup description)
   source-some setup description =
-      reading-some (source_label description) (source_rules description) (Makes setup description)
-      (λ source. (Ok (bundle_of setup description source (source_name description)), refl, ok-some (bundle_of setup description source (source_name description))))
+      reading-some (source_label description) (AfterSource setup description)
+      (λ source.
+      let bundle = bundle_of setup description source (source_name description) in
+      tells-some (source_told (source_label description) description source) (λ x. x ≡ Ok bundle) (Ok bundle, refl, ok-some bundle))
       before now (source_path setup description) missing
 
-  names-some : (setup description : Json) → IsSome (FromNames before now setup description)
-  names-some setup description = tells-some (told (codes "setup") (naming_rules description setup)) (FromSource before now setup description) (source-some setup description)
+  described-some : (setup description : Json) → IsSome (AfterDescription before now setup description)
+  described-some setup description =
+      let test = some_test description in
+      let told = description_told test.0 setup description in
+      let some = tells-some told (Tells (unbuilt_told setup description) (FromSource before now setup description))
+      (tells-some (unbuilt_told setup description) (FromSource before now setup description) (source-some setup description)) in
+      (some.0, (told, (test.0, test.1, refl), some.1), some.2)
 
   description-some : (setup : Json) → IsSome (FromDescription before now setup)
   description-some setup =
-      reading-some (codes "arazzo") description_rules (FromNames before now setup) (λ tree. names-some setup tree) before now (description_path setup) missing
+      reading-some (codes "arazzo") (AfterDescription before now setup) (described-some setup) before now (description_path setup) missing
 
 pub loads_some : LoadsSome
 loads_some before now missing path =
-    reading-some (codes "setup") setup_rules (FromDescription before now) (λ tree. description-some before now missing tree) before now path missing
+    reading-some (codes "setup") (AfterSetup before now)
+    (λ tree. tells-some (setup_told tree) (FromDescription before now tree) (description-some before now missing tree)) before now path missing
 
 pub gives_some : GivesSome
 gives_some before now missing path =
-    reading-some (codes "replies") replies_rules MakesReplies (λ tree. (Ok (replies_of tree), refl, ok-some (replies_of tree))) before now path missing
+    reading-some (codes "replies") AfterReplies
+    (λ tree. tells-some (replies_told tree) (λ x. x ≡ Ok (replies_of tree)) (Ok (replies_of tree), refl, ok-some (replies_of tree))) before now path missing
 
 -- ---- what is loaded
 
@@ -129,43 +136,43 @@ given a = Ok a
 same-ok : {A : Type 0} (a b : A) → given a ≡ given b → a ≡ b
 same-ok a b e = cc
 
--- where something is given, no rule fails
-module _ {A : Type 0} (label : List ℕ) (a : A) (P : Type 0) where
-  tells-gave : (rules : List Rule) (o : Option Failure) → first_failure rules ≡ o → (Next : Result A LoadFault → Type 0) → Tells (option_map (refusal label) o) Next (Ok a)
-      → (first_failure rules ≡ None → Next (Ok a) → P) → P
-  tells-gave rules None e Next goes then_ = then_ e goes
-  tells-gave rules (Some f) e Next is then_ = absurd (cc)
+-- where something is given, no phase tells a refusal
+tells-gave : {A : Type 0} (a : A) (P : Type 0) (o : Option Refusal) (Next : Result A LoadFault → Type 0) → Tells o Next (Ok a) → (o ≡ None → Next (Ok a) → P) → P
+tells-gave a P None Next goes then_ = then_ refl goes
+tells-gave a P (Some r) Next is then_ = absurd (cc)
 
--- what follows a file that passes its rules, where something is given
-module _ {A : Type 0} (before now : FilesView) (path label : List ℕ) (rules : Json → List Rule) (Next : Json → Result A LoadFault → Type 0) (a : A) (P : Type 0)
-    (goes : (tree : Json) → first_failure (rules tree) ≡ None → IsWithin 127 tree → Next tree (Ok a) → P) where
-  reading-gave : Reading before now path label rules Next (Ok a) → P
-  reading-gave (inl (bytes, reads, inl (tree, file, tells))) =
-      tells-gave label a P (rules tree) (first_failure (rules tree)) refl (Next tree) tells (λ none came. goes tree none (IsWithin-Reads bytes tree file.1) came)
+-- what follows a file, where something is given
+module _ {A : Type 0} (before now : FilesView) (path label : List ℕ) (Next : Json → Result A LoadFault → Type 0) (a : A) (P : Type 0)
+    (goes : (tree : Json) → IsWithin 127 tree → Next tree (Ok a) → P) where
+  reading-gave : Reading before now path label Next (Ok a) → P
+  reading-gave (inl (bytes, reads, inl (tree, file, came))) = goes tree (IsWithin-Reads bytes tree file.1) came
   reading-gave (inl (bytes, reads, inr (r, none, is))) = absurd (cc)
   reading-gave (inr (inl (rose, is))) = absurd (cc)
   reading-gave (inr (inr is)) = absurd (cc)
 
 module _ (before now : FilesView) (b : Bundle) where
-  source-valid : (setup description : Json) → first_failure (description_rules description) ≡ None → first_failure (naming_rules description setup) ≡ None
-      → IsWithin 127 setup → IsWithin 127 description → FromSource before now setup description (Ok b) → IsValid b
-  source-valid setup description described named setup-within description-within came =
-      reading-gave before now (source_path setup description) (source_label description) (source_rules description) (Makes setup description) b (IsValid b)
-      (λ source none within is.
-      subst IsValid (sym (same-ok b (bundle_of setup description source (source_name description)) is)) (valid-bundle setup description source described named setup-within description-within within)) came
+  source-valid : (setup description : Json) → IsDescribed setup description None → IsWithin 127 setup → IsWithin 127 description
+      → FromSource before now setup description (Ok b) → IsValid b
+  source-valid setup description described setup-within description-within came =
+      reading-gave before now (source_path setup description) (source_label description) (AfterSource setup description) b (IsValid b)
+      (λ source within goes. tells-gave b (IsValid b) (source_told (source_label description) description source) _ goes
+      (λ none is.
+      subst IsValid (sym (same-ok b (bundle_of setup description source (source_name description)) is)) (valid-bundle setup description source described setup-within description-within within))) came
 
   description-valid : (setup : Json) → IsWithin 127 setup → FromDescription before now setup (Ok b) → IsValid b
   description-valid setup within came =
-      reading-gave before now (description_path setup) (codes "arazzo") description_rules (FromNames before now setup) b (IsValid b)
-      (λ tree described tree-within tells.
-      tells-gave (codes "setup") b (IsValid b) (naming_rules tree setup) (first_failure (naming_rules tree setup)) refl (FromSource before now setup tree) tells
-      (λ named goes. source-valid setup tree described named within tree-within goes)) came
+      reading-gave before now (description_path setup) (codes "arazzo") (AfterDescription before now setup) b (IsValid b)
+      (λ tree tree-within (told, described, tells). tells-gave b (IsValid b) told _ tells
+      (λ none later. tells-gave b (IsValid b) (unbuilt_told setup tree) (FromSource before now setup tree) later
+      (λ built goes. source-valid setup tree (subst (λ o. IsDescribed setup tree o) none described) within tree-within goes))) came
 
 pub loads_valid : LoadsValid
 loads_valid before now path b came =
-    reading-gave before now path (codes "setup") setup_rules (FromDescription before now) b (IsValid b) (λ tree none within goes. description-valid before now b tree within goes) came
+    reading-gave before now path (codes "setup") (AfterSetup before now) b (IsValid b)
+    (λ tree within tells. tells-gave b (IsValid b) (setup_told tree) (FromDescription before now tree) tells (λ none goes. description-valid before now b tree within goes)) came
 
 pub gives_statuses : GivesStatuses
 gives_statuses before now path replies came =
-    reading-gave before now path (codes "replies") replies_rules MakesReplies replies (All HasStatus replies)
-    (λ tree none within is. subst (All HasStatus) (sym (same-ok replies (replies_of tree) is)) (statuses _ (reply-items tree none within))) came
+    reading-gave before now path (codes "replies") AfterReplies replies (All HasStatus replies)
+    (λ tree within tells. tells-gave replies (All HasStatus replies) (replies_told tree) _ tells
+    (λ none is. subst (All HasStatus) (sym (same-ok replies (replies_of tree) is)) (statuses _ (reply-items tree none within)))) came

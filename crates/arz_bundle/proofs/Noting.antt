@@ -61,7 +61,7 @@ noted-under id url items i item before after whole lt is goes so_far =
     ∙ noted_all-append id before (operations_under url item) (flat_map (operations_under url) (drop (i + 1) items))
     ∙ ap (λ k. noted_all id k (flat_map (operations_under url) (drop (i + 1) items))) (sym goes)
 
-module _ (step : Json) (id : List ℕ) where
+module _ (description step : Json) (id : List ℕ) where
   abbrev has_id : Operation → Bool
   has_id o = bytes_eq o.id id
 
@@ -69,7 +69,7 @@ module _ (step : Json) (id : List ℕ) where
   abbrev pub answer : Known → Bool
   answer None = false
   answer (Some None) = false
-  answer (Some (Some o)) = is_callable step o
+  answer (Some (Some o)) = is_callable description step o
 
   several-at : (b : Bool) (o : Operation) (os : List Operation) → noted_all id (Some None) os ≡ Some None → noted_all id (cond b (noted (Some None) o) (Some None)) os ≡ Some None
   several-at true o os h = h
@@ -85,32 +85,32 @@ module _ (step : Json) (id : List ℕ) where
   one-alone : (n : ℕ) → (1 + n == 1) ≡ (n == 0)
   one-alone n = grind arith
 
-  first-at : (b : Bool) (o q : Operation) (os : List Operation) → answer (noted_all id (Some (Some o)) os) ≡ (count_by has_id os == 0 && is_callable step o)
-      → answer (noted_all id (cond b (noted (Some (Some o)) q) (Some (Some o))) os) ≡ (cond b 1 0 + count_by has_id os == 0 && is_callable step o)
-  first-at true o q os h = ap answer (several os) ∙ sym (ap (λ b. b && is_callable step o) (one-more (count_by has_id os)))
-  first-at false o q os h = h ∙ ap (λ n. n == 0 && is_callable step o) (sym (zero-add (count_by has_id os)))
+  first-at : (b : Bool) (o q : Operation) (os : List Operation) → answer (noted_all id (Some (Some o)) os) ≡ (count_by has_id os == 0 && is_callable description step o)
+      → answer (noted_all id (cond b (noted (Some (Some o)) q) (Some (Some o))) os) ≡ (cond b 1 0 + count_by has_id os == 0 && is_callable description step o)
+  first-at true o q os h = ap answer (several os) ∙ sym (ap (λ b. b && is_callable description step o) (one-more (count_by has_id os)))
+  first-at false o q os h = h ∙ ap (λ n. n == 0 && is_callable description step o) (sym (zero-add (count_by has_id os)))
 
-  first : (o : Operation) (os : List Operation) → answer (noted_all id (Some (Some o)) os) ≡ (count_by has_id os == 0 && is_callable step o)
+  first : (o : Operation) (os : List Operation) → answer (noted_all id (Some (Some o)) os) ≡ (count_by has_id os == 0 && is_callable description step o)
   first o [] = refl
   first o (q ∷ os) = rw (sum_by-cons (λ x. cond (has_id x) 1 0) q os) (first-at (has_id q) o q os (first o os))
 
-  called-at : (b : Bool) (q : Operation) (os : List Operation) → answer (noted_all id None os) ≡ (count_by has_id os == 1 && passes (is_callable step) (operation_named id os))
-      → answer (noted_all id (cond b (noted None q) None) os) ≡ (cond b 1 0 + count_by has_id os == 1 && passes (is_callable step) (cond b (Some q) (operation_named id os)))
-  called-at true q os h = first q os ∙ ap (λ b. b && is_callable step q) (sym (one-alone (count_by has_id os)))
-  called-at false q os h = h ∙ ap (λ n. n == 1 && passes (is_callable step) (operation_named id os)) (sym (zero-add (count_by has_id os)))
+  called-at : (b : Bool) (q : Operation) (os : List Operation) → answer (noted_all id None os) ≡ (count_by has_id os == 1 && passes (is_callable description step) (operation_named id os))
+      → answer (noted_all id (cond b (noted None q) None) os) ≡ (cond b 1 0 + count_by has_id os == 1 && passes (is_callable description step) (cond b (Some q) (operation_named id os)))
+  called-at true q os h = first q os ∙ ap (λ b. b && is_callable description step q) (sym (one-alone (count_by has_id os)))
+  called-at false q os h = h ∙ ap (λ n. n == 1 && passes (is_callable description step) (operation_named id os)) (sym (zero-add (count_by has_id os)))
 
   -- exactly one operation has the id, and the step may call it
-  pub called : (os : List Operation) → answer (noted_all id None os) ≡ (count_by has_id os == 1 && passes (is_callable step) (operation_named id os))
+  pub called : (os : List Operation) → answer (noted_all id None os) ≡ (count_by has_id os == 1 && passes (is_callable description step) (operation_named id os))
   called [] = refl
   called (q ∷ os) = rw (sum_by-cons (λ x. cond (has_id x) 1 0) q os) (called-at (has_id q) q os (called os))
 
 -- ---- a map of what is known
 
-module _ (step root : Json) (places : BTreeMap (Bor (List ℕ)) (Option Place)) (id : List ℕ) (found : Option (Option Place))
+module _ (description step root : Json) (places : BTreeMap (Bor (List ℕ)) (Option Place)) (id : List ℕ) (found : Option (Option Place))
     (right : (id : List ℕ) → told (url_of root) places id ≡ noted_all id None (operations_in root))
     (is_id : id ≡ text_at (codes "operationId") step)
     (is_found : get_by (λ k. slice_cmp nat_cmp id k.now) places ≡ found) where
-  pub answered : answer step id (of_places (url_of root) found) ≡ has_operation root step
+  pub answered : answer description step id (of_places (url_of root) found) ≡ has_operation description root step
   answered =
-      let P : List ℕ → Type 0 = λ i. answer step i (noted_all i None (operations_in root)) ≡ has_operation root step in
-      ap (λ o. answer step id (of_places (url_of root) o)) (sym is_found) ∙ ap (answer step id) (right id) ∙ subst P (sym is_id) (called step (text_at (codes "operationId") step) (operations_in root))
+      let P : List ℕ → Type 0 = λ i. answer description step i (noted_all i None (operations_in root)) ≡ has_operation description root step in
+      ap (λ o. answer description step id (of_places (url_of root) o)) (sym is_found) ∙ ap (answer description step id) (right id) ∙ subst P (sym is_id) (called description step (text_at (codes "operationId") step) (operations_in root))

@@ -1,12 +1,11 @@
--- What the form of the files gives: a valid bundle, and replies with their statuses.
-use Rattle.std.proofs.Common.{◌≡◌, ℕ, ◌≤◌, ◌<◌, true, List, [], ◌∷◌, length, map, get_or, Option, None, Some, All, codes, refl, sym, ap, ◌∙◌, arith, lt-ltb}
-use Rattle.std.specs.Prelude.{pos, nat_lt, unwrap_or, option_and_then}
+-- What comes of files that pass their rules: a valid bundle, and replies with their statuses.
+use Rattle.std.proofs.Common.{◌≡◌, ℕ, true, List, [], ◌∷◌, map, get_or, Option, None, Some, All, codes, refl, arith, lt-ltb}
+use Rattle.std.specs.Prelude.{nat_lt, unwrap_or}
 use Rattle.std.specs.Option.{ForSome}
-use Rattle.std.specs.List.{list_all, AllByRecursion}
 use Rattle.std.proofs.lemmas.List.Elements.{All-from_recursion, All-map}
 use Rattle.std.proofs.lemmas.Option.{slice_get-get_or}
 use Rattle.arz_json.specs.Look.{list_in, object_in, member_in}
-use Rattle.arz_json.specs.Tree.{IsWithin, IsWellFormed, max_depth, form_step, depth_step}
+use Rattle.arz_json.specs.Tree.{IsWithin, max_depth, form_step, depth_step}
 use Rattle.arz_json.specs.declared.Json.{Json}
 use Rattle.arz_json.specs.declared.Json.TheVariants as json
 use Rattle.arz_json.specs.declared.Member.{Member}
@@ -14,25 +13,20 @@ use Rattle.arz_json.specs.declared.Named.{Named}
 use Rattle.arz_json.proofs.Layers.{folded-Object}
 use Rattle.arz_json.proofs.Parts.{IsWithin-more, IsWithin-list_in, IsWithin-object_in, IsWithin-member_in, IsWellFormed-item}
 use Rattle.arz_world.specs.declared.Reply.{Reply}
-use Rattle.arz_flow.specs.Documents.{members_at, workflow_named, steps_in}
+use Rattle.arz_flow.specs.Documents.{members_at}
 use Rattle.arz_flow.specs.Valid.{IsValid}
 use Rattle.arz_rules.specs.Misses.{misses}
-use Rattle.arz_rules.specs.Phases.{first_failure}
 use Rattle.arz_rules.specs.declared.kinds.Kind.TheVariants as Kind
-use Rattle.arz_bundle.specs.FileRules.{description_rules, naming_rules, replies_rules}
 use Rattle.arz_bundle.specs.Loading.{source_name}
+use Rattle.arz_bundle.specs.Phases.{IsDescribed, replies_told}
 use Rattle.arz_bundle.specs.Printable.{IsItem, IsPrintable}
 use Rattle.arz_bundle.specs.Replies.{reply_of, HasStatus}
-use Rattle.arz_bundle.specs.Setup.{workflow_run, bundle_of}
+use Rattle.arz_bundle.specs.Setup.{bundle_of}
 use Rattle.arz_bundle.proofs.KindFacts.{free}
-use Rattle.arz_bundle.proofs.RuleFacts.{is-described, workflow-is, reply-status, has-replies}
-use Rattle.arz_bundle.proofs.FormFacts.{HasSteps, has-steps, steps-named}
+use Rattle.arz_bundle.proofs.DescriptionFacts.{run-steps}
+use Rattle.arz_bundle.proofs.RuleFacts.{reply-status, has-replies}
 
 -- ---- the bundle
-
--- the workflow that is run has these steps
-steps-run : (setup d : Json) (h : HasSteps d) → first_failure (naming_rules d setup) ≡ None → steps_in (workflow_named (workflow_run setup d) d) ≡ h.steps
-steps-run setup d h passes = steps-named d h (workflow_run setup d) (workflow-is setup d h.workflow passes h.workflows_are)
 
 no-members : IsWithin 127 (json.Object [])
 no-members = record { form = folded-Object _ form_step []; nests = omega (arith, folded-Object ℕ depth_step []) }
@@ -46,14 +40,12 @@ inputs-of : (setup : Json) (o : Option Json) → member_in (codes "inputs") setu
 inputs-of setup None e w = rw e no-members
 inputs-of setup (Some j) e w = rw e (members-of j (object_in j) refl (IsWithin-member_in 127 (codes "inputs") setup j e w))
 
-pub valid-bundle : (setup d s : Json) → first_failure (description_rules d) ≡ None → first_failure (naming_rules d setup) ≡ None → IsWithin 127 setup → IsWithin 127 d → IsWithin 127 s
-    → IsValid (bundle_of setup d s (source_name d))
-valid-bundle setup d s described named setup-within d-within s-within =
-    let h = has-steps d (is-described d described) in
-    let size = ap length (steps-run setup d h named) in
+pub valid-bundle : (setup d s : Json) → IsDescribed setup d None → IsWithin 127 setup → IsWithin 127 d → IsWithin 127 s → IsValid (bundle_of setup d s (source_name d))
+valid-bundle setup d s none setup-within d-within s-within =
+    let steps = run-steps setup d none in
     record {
-      some = omega (arith, size, h.some);
-      few = omega (arith, size, h.few);
+      some = steps.0;
+      few = steps.1;
       arazzo = d-within;
       inputs = inputs-of setup (member_in (codes "inputs") setup) refl setup-within;
       sources = All-from_recursion (λ (n : Named). IsWithin 127 n.root) (record { name = source_name d; root = s } ∷ []) (s-within, tt);
@@ -62,7 +54,7 @@ valid-bundle setup d s described named setup-within d-within s-within =
 -- ---- the replies
 
 -- the items of a list of replies
-pub reply-items : (tree : Json) → first_failure (replies_rules tree) ≡ None → IsWithin 127 tree → All IsItem (unwrap_or (list_in tree) [])
+pub reply-items : (tree : Json) → replies_told tree ≡ None → IsWithin 127 tree → All IsItem (unwrap_or (list_in tree) [])
 reply-items tree passes within =
     let has = has-replies tree passes in
     let whole = IsWithin-list_in max_depth tree has.items has.are (IsWithin-more 127 max_depth tree (omega arith) within) in

@@ -3,12 +3,11 @@ use Rattle.std.specs.Prelude.{ℕ, ℤ, pos, negsuc, nat_le, Bool, true, List, [
 use Rattle.arz_json.specs.Look.{int_in}
 use Rattle.arz_json.specs.declared.Json.{Json}
 use Rattle.arz_rules.specs.Phases.{Rule}
-use Rattle.arz_rules.specs.Place.{here, here_unless}
+use Rattle.arz_rules.specs.Place.{here_unless}
 use Rattle.arz_rules.specs.Misses.{misses}
-use Rattle.arz_rules.specs.Sets.{is_among, texts_at, bad_text, bad_names}
-use Rattle.arz_rules.specs.Sites.{Step, Check, member, each_item, at}
+use Rattle.arz_rules.specs.Sites.{Check, member, each_item, at}
 use Rattle.arz_rules.specs.declared.kinds.Kind.TheVariants as Kind
-use Rattle.arz_bundle.specs.Forms.{is_description, is_source}
+use Rattle.arz_bundle.specs.Forms.{is_source}
 
 -- numbers that are kept without their value: with a fraction or an exponent, or past 64 bits
 abbrev pub fractions : Check
@@ -35,37 +34,6 @@ setup_rules setup =
     ∷ (24, setup_limits setup)
     ∷ []
 
--- ---- what the setup names in the description
-
-abbrev pub workflow_ids : List Step
-workflow_ids = member (codes "workflows") ∷ each_item ∷ member (codes "workflowId") ∷ []
-
-abbrev pub source_names : List Step
-source_names = member (codes "sourceDescriptions") ∷ each_item ∷ member (codes "name") ∷ []
-
-abbrev pub unknown_workflow : (description : Json) → Check
-unknown_workflow description = at (member (codes "workflow") ∷ []) (bad_text (is_among (texts_at workflow_ids description)))
-
-abbrev pub unknown_sources : (description : Json) → Check
-unknown_sources description setup =
-    at (member (codes "sources") ∷ []) (bad_names (is_among (texts_at source_names description))) setup
-    ++ at (member (codes "servers") ∷ []) (bad_names (is_among (texts_at source_names description))) setup
-    ++ at (member (codes "overlays") ∷ each_item ∷ member (codes "source") ∷ []) (bad_text (is_among (texts_at source_names description))) setup
-
-abbrev pub unknown_names : (description : Json) → Check
-unknown_names description setup = unknown_workflow description setup ++ unknown_sources description setup
-
--- what stands there fails
-abbrev pub everywhere : Check
-everywhere j = here
-
--- what isn't built yet
-abbrev pub setup_not_built : Check
-setup_not_built setup = at (member (codes "servers") ∷ []) everywhere setup ++ at (member (codes "overlays") ∷ each_item ∷ []) everywhere setup
-
-abbrev pub naming_rules : (description : Json) → Json → List Rule
-naming_rules description setup = (8, unknown_names description setup) ∷ (0, setup_not_built setup) ∷ []
-
 -- ---- replies
 
 abbrev pub replies_rules : Json → List Rule
@@ -74,10 +42,7 @@ replies_rules replies =
     ∷ (12, at (each_item ∷ member (codes "body") ∷ []) fractions replies)
     ∷ []
 
--- ---- the form of descriptions and sources that is built
-
-abbrev pub description_rules : Json → List Rule
-description_rules description = (0, here_unless (is_description description)) ∷ []
+-- ---- the form of sources that is built
 
 abbrev pub source_rules : (description : Json) → Json → List Rule
-source_rules description source = (0, here_unless (is_source source description)) ∷ []
+source_rules description source = (0, here_unless (is_source description source)) ∷ []

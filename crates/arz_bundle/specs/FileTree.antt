@@ -1,15 +1,19 @@
 -- For private clauses: the tree of a file, or why there is none, and what a look at its rules answers.
-use Rattle.std.specs.Prelude.{◌≡◌, ℕ, List, [], Some, None}
+use Rattle.std.specs.Prelude.{◌≡◌, ℕ, List, [], Option, Some, None, option_map}
 use Rattle.std.specs.declared.result.Result.{Result}
 use Rattle.std.specs.declared.result.Result.TheVariants.{Ok, Err}
 use Rattle.arz_json.specs.declared.Json.{Json}
+use Rattle.arz_json.specs.declared.Refusal.{Refusal}
 use Rattle.arz_world.specs.Outside.{FilesView, ReadsAs, Rose}
-use Rattle.arz_rules.specs.Phases.{Rule, first_failure, refusal}
+use denote.Ref.{Bor}
+use Rattle.arz_doc.specs.Order.{seen_failure}
+use Rattle.arz_doc.specs.declared.order.Failure.{Failure}
+use Rattle.arz_rules.specs.Phases.{refusal}
 use Rattle.arz_rules.specs.declared.phases.RuleFault.{RuleFault}
 use Rattle.arz_rules.specs.declared.phases.RuleFault.TheVariants as rule
 use Rattle.arz_bundle.specs.declared.fault.LoadFault.{LoadFault}
 use Rattle.arz_bundle.specs.declared.fault.LoadFault.TheVariants.{File, Refused, Memory}
-use Rattle.arz_bundle.specs.Loading.{file_limit, IsFile, NoFile, told}
+use Rattle.arz_bundle.specs.Loading.{file_limit, IsFile, NoFile}
 
 -- before, now: what the files show before a read and after it
 module _ (before now : FilesView) (path label : List ℕ) where
@@ -19,11 +23,11 @@ module _ (before now : FilesView) (path label : List ℕ) where
   HasTree (Err (Refused r)) = (bytes : List ℕ) × ReadsAs (before.told path) file_limit bytes × NoFile label bytes r
   HasTree (Err Memory) = Unit {0}
 
--- no rule of these fails; or the first that does, as it is told; or memory ran out
-abbrev pub Checks : (label : List ℕ) → List Rule → Result Unit RuleFault → Type 0
-Checks label rules (Ok u) = first_failure rules ≡ None
-Checks label rules (Err (rule.Refused r)) = told label rules ≡ Some r
-Checks label rules (Err rule.Memory) = Unit {0}
+-- no rule of a phase fails; or what the phase tells; or memory ran out
+abbrev pub Checks : (told : Option Refusal) → Result Unit RuleFault → Type 0
+Checks told (Ok u) = told ≡ None
+Checks told (Err (rule.Refused r)) = told ≡ Some r
+Checks told (Err rule.Memory) = Unit {0}
 
 abbrev pub load_fault : RuleFault → LoadFault
 load_fault (rule.Refused r) = Refused r
@@ -34,3 +38,10 @@ abbrev pub FailsAt : (label : List ℕ) → ℕ → LoadFault → Type 0
 FailsAt label n (File path) = ⊥
 FailsAt label n (Refused r) = r ≡ refusal label (n, [])
 FailsAt label n Memory = Unit {0}
+
+-- a description's failure as it is told, and one with its label
+abbrev pub seen_refusal : (label : List ℕ) → Option Failure → Option Refusal
+seen_refusal label failure = option_map (refusal label) (option_map seen_failure failure)
+
+abbrev pub labelled : Bor (List ℕ) × Failure → Refusal
+labelled p = refusal p.0.now (seen_failure p.1)

@@ -1,4 +1,4 @@
--- How long the texts and names of a file may be.
+-- How long the texts and names of a source document may be.
 use Rattle.std.specs.Prelude.{ℕ, ◌&&◌, List, [], ◌∷◌, length, Bool, true, nat_le, Option, Some, None, if◌then◌else◌, option_and_then}
 use Rattle.arz_json.specs.Look.{text_in}
 use Rattle.arz_json.specs.Tree.{member_step, all_true}
@@ -6,7 +6,7 @@ use Rattle.arz_json.specs.declared.tree.Json.{Json}
 use Rattle.arz_json.specs.declared.tree.Json.TheOpen.{Json-F}
 use Rattle.arz_json.specs.declared.tree.Json.TheFolds.{fold-Json}
 
--- the most bytes that a text or a member's name has, but inside of values, inputs and replies
+-- the most bytes that a text or a member's name has
 abbrev pub text_limit : ℕ
 text_limit = 1000
 

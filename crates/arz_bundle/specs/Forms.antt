@@ -1,87 +1,14 @@
--- The form that is built of a description (Arazzo 1.0.1, 4.6) and of a source document (OpenAPI 3.1.1, 4.8).
-use Rattle.std.specs.Prelude.{◌==◌, ◌&&◌, List, [], ◌∷◌, length, Bool, codes, not, nat_eq, nat_lt, nat_le, count_by}
-use Rattle.std.specs.Option.{is_some}
-use Rattle.std.specs.List.{list_all, starts_with}
+-- The form that is built of a source document (OpenAPI 3.1.1, 4.8), for the steps of a description.
+use Rattle.std.specs.Prelude.{◌==◌, ◌&&◌, List, [], ◌∷◌, Bool, codes, nat_eq, count_by}
+use Rattle.std.specs.List.{list_all, list_any, starts_with}
 use Rattle.std.specs.Str.{bytes_eq}
-use Rattle.arz_json.specs.Look.{list_in, member_in}
 use Rattle.arz_json.specs.declared.tree.Json.{Json}
 use Rattle.arz_json.specs.declared.tree.Member.{Member}
 use Rattle.arz_flow.specs.Documents.{text_at, items_at, Operation, operations_in, operation_named}
+use Rattle.arz_flow.specs.Parameters.{Parameter, parameters_of}
 use Rattle.arz_flow.specs.Paths.{Part, Name, Byte, parts}
-use Rattle.arz_flow.specs.Valid.{steps_limit}
-use Rattle.arz_bundle.specs.FormNames.{are_named, have_distinct_names}
 use Rattle.arz_bundle.specs.FormTexts.{is_short}
-use Rattle.arz_bundle.specs.FormValues.{is_value, is_output}
-use Rattle.arz_bundle.specs.FormWords.{passes, Row, needed, optional, is_object_of, is_object_with, is_list_of, is_list_of_one, is_text, is_any_text, is_filled_text, is_name, is_info, has_no_opaque, are_inputs, is_status, is_body_text, is_header, is_path_byte, is_server_url, is_openapi_version, is_operation_id}
-
--- ---- description
-
--- Arazzo 1.0.1, 4.6.3
-abbrev pub source_description_members : List Row
-source_description_members =
-    needed (codes "name") is_name
-    ∷ needed (codes "type") (is_text (codes "openapi"))
-    ∷ needed (codes "url") is_any_text
-    ∷ []
-
-abbrev pub is_source_description : Json → Bool
-is_source_description = is_object_of source_description_members
-
--- Arazzo 1.0.1, 4.6.6
-abbrev pub parameter_members : List Row
-parameter_members =
-    needed (codes "in") (is_text (codes "path"))
-    ∷ needed (codes "name") is_any_text
-    ∷ needed (codes "value") is_value
-    ∷ []
-
-abbrev pub is_parameter : Json → Bool
-is_parameter = is_object_of parameter_members
-
--- parameters with distinct names
-abbrev pub are_parameters : List Json → Bool
-are_parameters ps = list_all is_parameter ps && have_distinct_names (codes "name") ps
-
--- Arazzo 1.0.1, 4.6.5
-abbrev pub step_members : List Row
-step_members =
-    needed (codes "operationId") is_any_text
-    ∷ optional (codes "outputs") (is_object_with is_output)
-    ∷ optional (codes "parameters") (λ j. passes are_parameters (list_in j))
-    ∷ needed (codes "stepId") is_name
-    ∷ []
-
-abbrev pub is_step : Json → Bool
-is_step = is_object_of step_members
-
--- 1 to 256 steps with distinct stepIds
-abbrev pub are_steps : List Json → Bool
-are_steps steps =
-    nat_lt 0 (length steps) && nat_le (length steps) steps_limit && list_all is_step steps
-    && have_distinct_names (codes "stepId") steps
-
--- Arazzo 1.0.1, 4.6.4
-abbrev pub workflow_members : List Row
-workflow_members =
-    optional (codes "outputs") (is_object_with is_output)
-    ∷ needed (codes "steps") (λ j. passes are_steps (list_in j))
-    ∷ needed (codes "workflowId") is_name
-    ∷ []
-
-abbrev pub is_workflow : Json → Bool
-is_workflow = is_object_of workflow_members
-
--- Arazzo 1.0.1, 4.6.1
-abbrev pub description_members : List Row
-description_members =
-    needed (codes "arazzo") (is_text (codes "1.0.1"))
-    ∷ needed (codes "info") is_info
-    ∷ needed (codes "sourceDescriptions") (is_list_of_one is_source_description)
-    ∷ needed (codes "workflows") (is_list_of_one is_workflow)
-    ∷ []
-
-abbrev pub is_description : Json → Bool
-is_description = is_object_of description_members
+use Rattle.arz_bundle.specs.FormWords.{passes, Row, needed, is_object_of, is_object_with, is_list_of_one, is_info, is_path_byte, is_server_url, is_openapi_version, is_operation_id}
 
 -- ---- source document
 
@@ -115,28 +42,29 @@ source_members =
 abbrev pub is_source_document : Json → Bool
 is_source_document = is_object_of source_members
 
--- a `{name}` of a path is a parameter of the step; each other byte is `/` or plain
-abbrev pub is_given : List Json → Part → Bool
-is_given ps (Name name) = are_named (codes "name") ps name
+-- a `{name}` of a path is one of the parameters; each other byte is `/` or plain
+abbrev pub is_given : List Parameter → Part → Bool
+is_given ps (Name name) = list_any (λ p. bytes_eq p.name name) ps
 is_given ps (Byte b) = is_path_byte b
 
--- the operation stands under `get`, and the step gives what its path needs
-abbrev pub is_callable : Json → Operation → Bool
-is_callable step o = bytes_eq o.method (codes "get") && list_all (is_given (items_at (codes "parameters") step)) (parts o.path)
+-- the operation stands under `get`, and the step of a description gives what its path needs
+abbrev pub is_callable : (description step : Json) → Operation → Bool
+is_callable description step o = bytes_eq o.method (codes "get") && list_all (is_given (parameters_of description step)) (parts o.path)
 
--- exactly one operation of the document has the step's operationId, and the step may call it
-abbrev pub has_operation : Json → Json → Bool
-has_operation root step =
-    count_by (λ o. bytes_eq o.id (text_at (codes "operationId") step)) (operations_in root) == 1
-    && passes (is_callable step) (operation_named (text_at (codes "operationId") step) (operations_in root))
+module _ (description root : Json) where
+  -- exactly one operation of the document has the step's operationId, and the step may call it
+  abbrev pub has_operation : (step : Json) → Bool
+  has_operation step =
+      count_by (λ o. bytes_eq o.id (text_at (codes "operationId") step)) (operations_in root) == 1
+      && passes (is_callable description step) (operation_named (text_at (codes "operationId") step) (operations_in root))
 
--- the document has the operations of the steps of a workflow, of a description
-abbrev pub has_operations : Json → Json → Bool
-has_operations root workflow = list_all (has_operation root) (items_at (codes "steps") workflow)
+  -- the document has the operations of the steps of a workflow, of the description
+  abbrev pub has_operations : (workflow : Json) → Bool
+  has_operations workflow = list_all has_operation (items_at (codes "steps") workflow)
 
-abbrev pub serves : Json → Json → Bool
-serves root description = list_all (has_operations root) (items_at (codes "workflows") description)
+  abbrev pub serves : Bool
+  serves = list_all has_operations (items_at (codes "workflows") description)
 
 -- a source document that has the operations of a description's steps
-abbrev pub is_source : Json → Json → Bool
-is_source root description = is_source_document root && serves root description
+abbrev pub is_source : (description root : Json) → Bool
+is_source description root = is_source_document root && serves description root

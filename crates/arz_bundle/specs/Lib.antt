@@ -1,13 +1,14 @@
 pub mod FileRules
 pub mod FileTree
-pub mod FormNames
 pub mod FormTexts
-pub mod FormValues
 pub mod FormWords
 pub mod Forms
 pub mod Laws
 pub mod Loading
+pub mod Naming
+pub mod Phases
 pub mod Printable
 pub mod Replies
 pub mod Setup
 pub mod Standing
+pub mod Unbuilt

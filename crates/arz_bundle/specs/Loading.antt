@@ -1,5 +1,5 @@
 -- How the files of a run are read, and what comes of them: phase by phase, and in each the first rule that fails.
-use Rattle.std.specs.Prelude.{◌≡◌, ◌⊎◌, ◌<◌, ◌≤◌, ◌++◌, ℕ, List, [], ◌∷◌, length, codes, Option, Some, None, option_map}
+use Rattle.std.specs.Prelude.{◌≡◌, ◌⊎◌, ◌<◌, ◌≤◌, ◌++◌, ℕ, List, [], ◌∷◌, length, codes, Option, Some, None}
 use Rattle.std.specs.declared.result.Result.{Result}
 use Rattle.std.specs.declared.result.Result.TheVariants.{Ok, Err}
 use Rattle.arz_json.specs.Look.{items_at}
@@ -9,16 +9,12 @@ use Rattle.arz_json.specs.declared.Refusal.{Refusal}
 use Rattle.arz_world.specs.Outside.{FilesView, ReadsAs, Rose}
 use Rattle.arz_world.specs.declared.Reply.{Reply}
 use Rattle.arz_flow.specs.declared.bundle.Bundle.{Bundle}
-use Rattle.arz_rules.specs.Phases.{Rule, refusal, first_failure}
+use Rattle.arz_rules.specs.Phases.{refusal}
 use Rattle.arz_bundle.specs.declared.fault.LoadFault.{LoadFault}
 use Rattle.arz_bundle.specs.declared.fault.LoadFault.TheVariants.{File, Refused, Memory}
-use Rattle.arz_bundle.specs.FileRules.{setup_rules, description_rules, naming_rules, source_rules, replies_rules}
+use Rattle.arz_bundle.specs.Phases.{setup_told, IsDescribed, unbuilt_told, source_told, replies_told}
 use Rattle.arz_bundle.specs.Replies.{replies_of}
 use Rattle.arz_bundle.specs.Setup.{description_path, path_of_source, first_text, bundle_of}
-
--- the first of these rules that fails, as it is told with the document's label
-abbrev pub told : (label : List ℕ) → List Rule → Option Refusal
-told label rules = option_map (refusal label) (first_failure rules)
 
 -- ---- one file
 
@@ -42,25 +38,28 @@ module _ {A : Type 0} where
   Tells (Some r) Next x = x ≡ Err (Refused r)
   Tells None Next x = Next x
 
-  -- the first rule that the file of these bytes fails is told; else Next says what comes of its tree
-  abbrev pub Judged : (label : List ℕ) → (Json → List Rule) → (Json → Result A LoadFault → Type 0) → List ℕ → Result A LoadFault → Type 0
-  Judged label rules Next bytes x =
-      ((tree : Json) × IsFile bytes tree × Tells (told label (rules tree)) (Next tree) x)
+  -- a rule of all files that the file of these bytes fails is told; else Next says what comes of its tree
+  abbrev pub Judged : (label : List ℕ) → (Json → Result A LoadFault → Type 0) → List ℕ → Result A LoadFault → Type 0
+  Judged label Next bytes x =
+      ((tree : Json) × IsFile bytes tree × Next tree x)
       ⊎ ((r : Refusal) × NoFile label bytes r × (x ≡ Err (Refused r)))
 
   -- The file is read and judged, or a read of it failed in this call, or memory ran out.
   -- before, now: what the files show at the call's beginning and end
-  abbrev pub Reading : (before now : FilesView) → (path label : List ℕ) → (Json → List Rule) → (Json → Result A LoadFault → Type 0) → Result A LoadFault → Type 0
-  Reading before now path label rules Next x =
-      ((bytes : List ℕ) × ReadsAs (before.told path) file_limit bytes × Judged label rules Next bytes x)
+  abbrev pub Reading : (before now : FilesView) → (path label : List ℕ) → (Json → Result A LoadFault → Type 0) → Result A LoadFault → Type 0
+  Reading before now path label Next x =
+      ((bytes : List ℕ) × ReadsAs (before.told path) file_limit bytes × Judged label Next bytes x)
       ⊎ (Rose (before.faults path) (now.faults path) × (x ≡ Err (File path)))
       ⊎ (x ≡ Err Memory)
 
--- ---- the files, one by one
+-- ---- the files, one by one, and their phases
 
 -- the name of the one source
 abbrev pub source_name : Json → List ℕ
 source_name description = first_text (codes "name") (items_at (codes "sourceDescriptions") description)
+
+abbrev pub source_label : Json → List ℕ
+source_label description = codes "source " ++ source_name description
 
 abbrev pub first_source_path : (setup : Json) → List Json → List ℕ
 first_source_path setup [] = []
@@ -69,23 +68,34 @@ first_source_path setup (source ∷ sources) = path_of_source setup source
 abbrev pub source_path : (setup description : Json) → List ℕ
 source_path setup description = first_source_path setup (items_at (codes "sourceDescriptions") description)
 
+-- the source passes its phase, and the bundle is made
+abbrev pub AfterSource : (setup description source : Json) → Result Bundle LoadFault → Type 0
+AfterSource setup description source =
+    Tells (source_told (source_label description) description source) (λ x. x ≡ Ok (bundle_of setup description source (source_name description)))
+
+-- a file of replies passes its phase
+abbrev pub AfterReplies : Json → Result (List Reply) LoadFault → Type 0
+AfterReplies tree = Tells (replies_told tree) (λ x. x ≡ Ok (replies_of tree))
+
 module _ (before now : FilesView) where
   abbrev pub FromSource : (setup description : Json) → Result Bundle LoadFault → Type 0
-  FromSource setup description =
-      Reading before now (source_path setup description) (codes "source " ++ source_name description) (source_rules description)
-      (λ source x. x ≡ Ok (bundle_of setup description source (source_name description)))
+  FromSource setup description = Reading before now (source_path setup description) (source_label description) (AfterSource setup description)
 
-  -- what the setup names is looked up in the description
-  abbrev pub FromNames : (setup description : Json) → Result Bundle LoadFault → Type 0
-  FromNames setup description = Tells (told (codes "setup") (naming_rules description setup)) (FromSource setup description)
+  -- the description's rules with those of what the setup names in it, and then what isn't built yet
+  abbrev pub AfterDescription : (setup description : Json) → Result Bundle LoadFault → Type 0
+  AfterDescription setup description x =
+      (told : Option Refusal) × IsDescribed setup description told × Tells told (Tells (unbuilt_told setup description) (FromSource setup description)) x
 
   abbrev pub FromDescription : (setup : Json) → Result Bundle LoadFault → Type 0
-  FromDescription setup = Reading before now (description_path setup) (codes "arazzo") description_rules (FromNames setup)
+  FromDescription setup = Reading before now (description_path setup) (codes "arazzo") (AfterDescription setup)
+
+  abbrev pub AfterSetup : (setup : Json) → Result Bundle LoadFault → Type 0
+  AfterSetup setup = Tells (setup_told setup) (FromDescription setup)
 
   -- the setup at this path, the description and the source, in this order
   abbrev pub Loads : List ℕ → Result Bundle LoadFault → Type 0
-  Loads path = Reading before now path (codes "setup") setup_rules FromDescription
+  Loads path = Reading before now path (codes "setup") AfterSetup
 
   -- the replies of the file at this path
   abbrev pub Gives_replies : List ℕ → Result (List Reply) LoadFault → Type 0
-  Gives_replies path = Reading before now path (codes "replies") replies_rules (λ tree x. x ≡ Ok (replies_of tree))
+  Gives_replies path = Reading before now path (codes "replies") AfterReplies

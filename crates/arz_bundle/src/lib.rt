@@ -1,14 +1,18 @@
 //! The files of a run: the first rule that one fails, and the bundle and the replies that they give.
 #![tactic(auto)]
 
+mod components;
 mod fault;
 mod files;
 mod forms;
 mod given;
 pub mod laws;
 mod loading;
+mod naming;
+mod phases;
 mod rules;
 mod setup;
+mod unbuilt;
 
 pub use fault::LoadFault;
 pub use given::replies;

@@ -1,16 +1,16 @@
 // The bundle that the files of a run give.
-ghost use Rattle.std.specs.Prelude.{◌≡◌, ◌≤◌, ◌++◌, ℕ, List, IfOk, None, codes, string_bytes};
+ghost use Rattle.std.specs.Prelude.{◌≡◌, ◌≤◌, ℕ, List, IfOk, None, codes, string_bytes};
 ghost use Rattle.arz_json.specs.Tree.{IsWithin};
 ghost use Rattle.arz_json.specs.Look.{members_at as members_under};
-ghost use Rattle.arz_rules.specs.Phases.{first_failure};
 ghost use Rattle.arz_flow.specs.Valid.{IsValid};
-ghost use Rattle.arz_bundle.specs.FileRules.{description_rules, naming_rules};
-ghost use Rattle.arz_bundle.specs.Loading.{source_name as name_of_source, source_path as path_of_first, FromSource, FromDescription, Loads};
+ghost use Rattle.arz_bundle.specs.Loading.{source_name as name_of_source, source_label as label_of_source, source_path as path_of_first, FromSource, FromDescription, Loads};
+ghost use Rattle.arz_bundle.specs.Phases.{IsDescribed};
 ghost use Rattle.arz_bundle.specs.Setup.{bundle_of};
 
 use crate::fault::LoadFault;
 use crate::files::read_tree;
-use crate::rules::{check_description, check_names, check_setup, check_source};
+use crate::phases::{check_built, check_description};
+use crate::rules::{check_setup, check_source};
 use crate::setup::{
     first_text, journal_limit, max_attempts, skips_delay, source_path, workflow_run,
 };
@@ -45,8 +45,8 @@ fn from_description<F: Files>(
     ensures counts { (p : List ℕ) → (F.files files.old).faults p ≤ (F.files files.new).faults p }
 {
     let description = read_tree(alloc, text_at(&setup, "arazzo"), "arazzo", files)?;
-    check_description(alloc, &description)?;
-    check_names(alloc, &setup, &description)?;
+    check_description(alloc, &setup, &description)?;
+    check_built(alloc, &setup, &description)?;
     from_source(alloc, setup, description, files)
 }
 
@@ -56,8 +56,7 @@ fn from_source<F: Files>(
     description: Json,
     files: &mut F,
 ) -> Result<Bundle, LoadFault>
-    requires description { first_failure (description_rules description) ≡ None }
-    requires names { first_failure (naming_rules description setup) ≡ None }
+    requires described { IsDescribed setup description None }
     requires setup_nests { IsWithin 127 setup }
     requires description_nests { IsWithin 127 description }
     ensures loads { FromSource (F.files files.old) (F.files files.new) setup description result }
@@ -65,18 +64,18 @@ fn from_source<F: Files>(
     ensures told { (F.files files.new).told ≡ (F.files files.old).told }
     ensures counts { (p : List ℕ) → (F.files files.old).faults p ≤ (F.files files.new).faults p }
 {
-    let label = source_label(alloc, source_name(&description))?;
+    let label = source_label(alloc, &description)?;
     let path = first_source_path(&setup, &description);
     let source = read_tree(alloc, path, label.as_str(), files)?;
     check_source(alloc, label.as_str(), &description, &source)?;
     Ok(make_bundle(alloc, setup, description, source)?)
 }
 
-fn source_label(alloc: Global, name: &str) -> Result<String, AllocError>
-    ensures { IfOk result (λ label. string_bytes label ≡ codes "source " ++ name.now) }
+fn source_label(alloc: Global, description: &Json) -> Result<String, AllocError>
+    ensures { IfOk result (λ label. string_bytes label ≡ label_of_source description.now) }
 {
     let mut label = String::from_str(alloc, "source ")?;
-    label.push_str(name)?;
+    label.push_str(source_name(description))?;
     Ok(label)
 }
 

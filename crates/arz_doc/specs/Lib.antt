@@ -3,4 +3,3 @@ pub mod Described
 pub mod Rules
 pub mod Order
 pub mod Cycles
-pub mod Circular

@@ -1,13 +1,12 @@
 // The rules in order.
-ghost use Rattle.std.specs.Prelude.{◌≡◌, true, codes, IfOk, option_map};
+ghost use Rattle.std.specs.Prelude.{◌≡◌, ℕ, Bool, true, codes, IfOk, option_map};
 ghost use Rattle.arz_json.specs.Answer.{Gives};
 ghost use Rattle.arz_json.specs.Tree.{has_form};
 ghost use Rattle.arz_rules.specs.Place.{least, tokens_in};
 ghost use Rattle.arz_rules.specs.Phases.{cause, first_failure, phase};
 ghost use Rattle.arz_components.specs.Indexes.{finds};
-ghost use Rattle.arz_doc.specs.Circular.{description_rules};
-ghost use Rattle.arz_doc.specs.Cycles.{tells};
-ghost use Rattle.arz_doc.specs.Order.{wrong_shapes, shape_rules, naming_rules, value_rules, sending_rules, name_rules, content_rules, rules_with, seen_failure};
+ghost use Rattle.arz_doc.specs.Cycles.{TellsCycles, tells};
+ghost use Rattle.arz_doc.specs.Order.{wrong_shapes, shape_rules, naming_rules, value_rules, sending_rules, name_rules, content_rules, rules_with, rules as rules_of, seen_failure};
 
 use crate::criteria::{first_type_object, first_xpath};
 use crate::cycles::{Cycles, first_circular};
@@ -171,7 +170,7 @@ fn first_with(
 /// documents.
 pub fn first_refusal(alloc: Global, root: &Json) -> Result<Option<Failure>, AllocError>
     requires { has_form root.now ≡ true }
-    ensures { IfOk result (λ f. option_map seen_failure f ≡ first_failure (description_rules root.now)) }
+    ensures { IfOk result (λ f. (is_cyclic : ℕ → Bool) × TellsCycles root.now is_cyclic × (option_map seen_failure f ≡ first_failure (rules_of is_cyclic root.now))) }
 {
     let components = Components::of(alloc, root)?;
     let cycles = Cycles::of(alloc, root)?;
@@ -182,7 +181,7 @@ pub fn first_refusal(alloc: Global, root: &Json) -> Result<Option<Failure>, Allo
 /// Refuses a description that fails a rule by itself: the least rule, at its least place, under the label `arazzo`.
 pub fn check(alloc: Global, root: &Json) -> Result<(), RuleFault>
     requires { has_form root.now ≡ true }
-    ensures { Gives (λ u. u) cause result (phase (codes "arazzo") (description_rules root.now) (Ok tt)) }
+    ensures { (is_cyclic : ℕ → Bool) × TellsCycles root.now is_cyclic × Gives (λ u. u) cause result (phase (codes "arazzo") (rules_of is_cyclic root.now) (Ok tt)) }
 {
     match first_refusal(alloc, root) {
         Ok(Some(failure)) => Err(refuse(alloc, failure.rule, "arazzo", &failure.place)),

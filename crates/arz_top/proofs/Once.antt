@@ -1,16 +1,17 @@
 -- Over files that tell what they hold, and of which a read failed only where no file is there, files give one result.
-use Rattle.std.proofs.Common.{◌≡◌, ◌≢◌, ◌<◌, ◌≤◌, inl, inr, ℕ, List, length, codes, Option, None, Some, Result, Err, refl, sym, ap, ◌∙◌, subst, arith}
+use Rattle.std.proofs.Common.{◌≡◌, ◌≢◌, ◌<◌, ◌≤◌, inl, inr, ℕ, List, length, codes, Option, None, Some, Result, Ok, Err, refl, sym, ap, ◌∙◌, subst, arith}
 use Rattle.arz_json.specs.declared.Json.{Json}
 use Rattle.arz_json.proofs.Readings.{Reads-unique}
 use Rattle.arz_world.specs.Outside.{FilesView, ReadsAs, Rose, Told}
 use Rattle.arz_json.specs.declared.Refusal.{Refusal}
-use Rattle.arz_rules.specs.Phases.{Rule}
 use Rattle.arz_bundle.specs.declared.fault.LoadFault.{LoadFault}
 use Rattle.arz_bundle.specs.declared.fault.LoadFault.TheVariants.{Refused, Memory}
-use Rattle.arz_bundle.specs.FileRules.{setup_rules, description_rules, naming_rules, source_rules, replies_rules}
-use Rattle.arz_bundle.specs.Loading.{told, file_limit, IsFile, NoFile, Tells, Judged, Reading, source_path, FromSource, FromNames, FromDescription, Loads, Gives_replies}
-use Rattle.arz_bundle.specs.Setup.{description_path}
-use Rattle.arz_bundle.proofs.Stages.{Makes, MakesReplies, source_label}
+use Rattle.arz_bundle.specs.Loading.{file_limit, IsFile, NoFile, Tells, Judged, Reading, source_name, source_label, source_path, AfterSource, FromSource, AfterDescription, FromDescription, AfterSetup, Loads, AfterReplies, Gives_replies}
+use Rattle.arz_doc.proofs.OneTest.{same_rules}
+use Rattle.arz_bundle.specs.Naming.{naming_rules}
+use Rattle.arz_bundle.specs.Phases.{told as told_of, earlier, setup_told, IsDescribed, unbuilt_told, source_told, replies_told}
+use Rattle.arz_bundle.specs.Replies.{replies_of}
+use Rattle.arz_bundle.specs.Setup.{description_path, bundle_of}
 use Rattle.arz_top.specs.Steady.{IsSteady}
 
 -- all results of this kind are one, but want of memory
@@ -46,20 +47,19 @@ no-tree : (label bytes : List ℕ) (r : Refusal) (tree : Json) → NoFile label 
 no-tree label bytes r tree (inl (large, p)) file = not-both (length bytes) file.0 large
 no-tree label bytes r tree (inr (small, none, p)) file = none tree file.1
 
-module _ {A : Type 0} (label : List ℕ) (rules : Json → List Rule) (Next : Json → Result A LoadFault → Type 0) (one : (tree : Json) → IsOne (Next tree)) where
-  judged-one : (bytes : List ℕ) → IsOne (Judged label rules Next bytes)
-  judged-one bytes x y mx my (inl (tree, file, tells)) (inl (other, file', tells')) =
-      tells-one (told label (rules tree)) (Next tree) (one tree) x y mx my tells
-      (subst (λ j. Tells (told label (rules j)) (Next j) y) (Reads-unique bytes other tree file'.1 file.1) tells')
-  judged-one bytes x y mx my (inl (tree, file, tells)) (inr (r, none, is)) = absurd (no-tree label bytes r tree none file)
-  judged-one bytes x y mx my (inr (r, none, is)) (inl (tree, file, tells)) = absurd (no-tree label bytes r tree none file)
+module _ {A : Type 0} (label : List ℕ) (Next : Json → Result A LoadFault → Type 0) (one : (tree : Json) → IsOne (Next tree)) where
+  judged-one : (bytes : List ℕ) → IsOne (Judged label Next bytes)
+  judged-one bytes x y mx my (inl (tree, file, goes)) (inl (other, file', goes')) =
+      one tree x y mx my goes (subst (λ j. Next j y) (Reads-unique bytes other tree file'.1 file.1) goes')
+  judged-one bytes x y mx my (inl (tree, file, goes)) (inr (r, none, is)) = absurd (no-tree label bytes r tree none file)
+  judged-one bytes x y mx my (inr (r, none, is)) (inl (tree, file, goes)) = absurd (no-tree label bytes r tree none file)
   judged-one bytes x y mx my (inr (r, none, is)) (inr (s, none', is')) =
       is ∙ ap (λ (z : Refusal). Err (Refused z)) (fault-one label bytes r s none none') ∙ sym is'
 
-  reading-one : (before now : FilesView) (path : List ℕ) → IsSteady before now → IsOne (Reading before now path label rules Next)
+  reading-one : (before now : FilesView) (path : List ℕ) → IsSteady before now → IsOne (Reading before now path label Next)
   reading-one before now path steady x y mx my (inl (bytes, reads, judged)) (inl (bytes', reads', judged')) =
       let same : bytes' ≡ bytes = same_bytes (before.told path) file_limit bytes' bytes (steady.told path) reads' reads in
-      judged-one bytes x y mx my judged (subst (λ b. Judged label rules Next b y) same judged')
+      judged-one bytes x y mx my judged (subst (λ b. Judged label Next b y) same judged')
   reading-one before now path steady x y mx my (inl a) (inr (inl b)) = absurd (not-there before now path steady a.0 a.1 b.0)
   reading-one before now path steady x y mx my (inl a) (inr (inr b)) = absurd (my b)
   reading-one before now path steady x y mx my (inr (inl a)) (inl b) = absurd (not-there before now path steady b.0 b.1 a.0)
@@ -67,22 +67,37 @@ module _ {A : Type 0} (label : List ℕ) (rules : Json → List Rule) (Next : Js
   reading-one before now path steady x y mx my (inr (inl a)) (inr (inr b)) = absurd (my b)
   reading-one before now path steady x y mx my (inr (inr a)) b = absurd (mx a)
 
+-- a phase, and the one result that is given where it tells nothing
+gives-one : {A : Type 0} (o : Option Refusal) (given : Result A LoadFault) → IsOne (Tells o (λ x. x ≡ given))
+gives-one o given = tells-one o (λ x. x ≡ given) (λ x y mx my p q. p ∙ sym q)
+
+-- the tests of cycles agree, so one thing is told of a description
+one-described : (setup description : Json) (o p : Option Refusal) → IsDescribed setup description o → IsDescribed setup description p → o ≡ p
+one-described setup description o p (f, f-tells, o-is) (g, g-tells, p-is) =
+    let named = told_of (codes "setup") (naming_rules description setup) in
+    o-is ∙ ap (λ rs. earlier named (told_of (codes "arazzo") rs)) (same_rules description f g f-tells g-tells) ∙ sym p-is
+
 module _ (before now : FilesView) (steady : IsSteady before now) where
   source-one : (setup description : Json) → IsOne (FromSource before now setup description)
   source-one setup description =
-      reading-one (source_label description) (source_rules description) (Makes setup description) (λ tree x y mx my p q. p ∙ sym q)
+      reading-one (source_label description) (AfterSource setup description)
+      (λ tree. gives-one (source_told (source_label description) description tree) (Ok (bundle_of setup description tree (source_name description))))
       before now (source_path setup description) steady
 
-  names-one : (setup description : Json) → IsOne (FromNames before now setup description)
-  names-one setup description =
-      tells-one (told (codes "setup") (naming_rules description setup)) (FromSource before now setup description) (source-one setup description)
+  described-one : (setup description : Json) → IsOne (AfterDescription before now setup description)
+  described-one setup description x y mx my (told, described, came) (other, described', came') =
+      let Then = Tells (unbuilt_told setup description) (FromSource before now setup description) in
+      tells-one told Then (tells-one (unbuilt_told setup description) (FromSource before now setup description) (source-one setup description)) x y mx my came
+      (subst (λ o. Tells o Then y) (one-described setup description other told described' described) came')
 
   description-one : (setup : Json) → IsOne (FromDescription before now setup)
   description-one setup =
-      reading-one (codes "arazzo") description_rules (FromNames before now setup) (λ tree. names-one setup tree) before now (description_path setup) steady
+      reading-one (codes "arazzo") (AfterDescription before now setup) (described-one setup) before now (description_path setup) steady
 
   pub loads-one : (path : List ℕ) → IsOne (Loads before now path)
-  loads-one path = reading-one (codes "setup") setup_rules (FromDescription before now) (λ tree. description-one tree) before now path steady
+  loads-one path =
+      reading-one (codes "setup") (AfterSetup before now) (λ tree. tells-one (setup_told tree) (FromDescription before now tree) (description-one tree)) before now path steady
 
   pub replies-one : (path : List ℕ) → IsOne (Gives_replies before now path)
-  replies-one path = reading-one (codes "replies") replies_rules MakesReplies (λ tree x y mx my p q. p ∙ sym q) before now path steady
+  replies-one path =
+      reading-one (codes "replies") AfterReplies (λ tree. gives-one (replies_told tree) (Ok (replies_of tree))) before now path steady

@@ -1,7 +1,8 @@
 // The operations that steps call (Arazzo 1.0.1, 4.6.5: `operationId`), found by a map.
-ghost use Rattle.std.specs.Prelude.{◌≡◌, ℕ, List, [], None, codes, unwrap_or, if◌then◌else◌, IfOk, OnOk};
+ghost use Rattle.std.specs.Prelude.{◌≡◌, ℕ, List, [], None, codes, true, unwrap_or, if◌then◌else◌, IfOk, OnOk};
 ghost use Rattle.std.specs.Str.{bytes_eq};
 ghost use Rattle.arz_json.specs.Look.{object_in};
+ghost use Rattle.arz_json.specs.Tree.{has_form};
 ghost use Rattle.arz_flow.specs.Documents.{operations_under, operations_in, operation_at, url_of, text_at as text_under};
 ghost use Rattle.arz_bundle.specs.Forms.{is_callable as callable};
 ghost use Rattle.arz_bundle.specs.Standing.{noted, noted_all, told};
@@ -18,34 +19,64 @@ type Place<'a> = (&'a Member, &'a Member);
 // By operationId the operation that alone has it, or nothing where several have it.
 type Places<'a> = BTreeMap<&'a str, Option<Place<'a>>>;
 
-/// The operations of a source document by their operationIds.
+/// The operations of a source document by their operationIds, for the steps of a description.
 #[derive(Drop)]
 pub(crate) struct Operations<'a> {
+    description: &'a Json,
     root: &'a Json,
     places: Places<'a>,
+    ghost formed: { has_form description.now ≡ true },
     ghost right: { (id : List ℕ) → told (url_of root.now) places id ≡ noted_all id None (operations_in root.now) },
 }
 
 impl<'a> Operations<'a> {
-    ghost use Rattle.arz_bundle.specs.Forms.{has_operation as operation_for};
+    ghost use Rattle.arz_bundle.specs.Forms.{has_operation as operation_for, has_operations as operations_for, serves};
 
     /// The operations of a document.
-    pub fn of(alloc: Global, root: &'a Json) -> Result<Operations<'a>, AllocError>
-        ensures { IfOk result (λ operations. operations.root.now ≡ root.now) }
+    pub fn of(
+        alloc: Global,
+        description: &'a Json,
+        root: &'a Json,
+    ) -> Result<Operations<'a>, AllocError>
+        requires { has_form description.now ≡ true }
+        ensures description { IfOk result (λ operations. operations.description.now ≡ description.now) }
+        ensures root { IfOk result (λ operations. operations.root.now ≡ root.now) }
     {
         let mut places = BTreeMap::new(alloc);
         for item in members_at(root, "paths") {
             note_all(&mut places, item)?;
         }
-        Ok(Operations { root, places })
+        Ok(Operations {
+            description,
+            root,
+            places,
+        })
     }
 
-    /// Whether exactly one operation of the document has the step's operationId, and the step may call it.
-    pub fn has_operation(&self, step: &Json) -> bool
-        ensures { result ≡ operation_for self.now.root.now step.now }
+    /// Whether the document has the operations of all steps of the description.
+    pub fn serve_all(&self) -> bool
+        ensures { result ≡ serves self.now.description.now self.now.root.now }
+    {
+        items_at(self.description, "workflows")
+            .iter()
+            .all(|workflow| self.serve(workflow))
+    }
+
+    fn serve(&self, workflow: &Json) -> bool
+        ensures { result ≡ operations_for self.now.description.now self.now.root.now workflow.now }
+    {
+        items_at(workflow, "steps")
+            .iter()
+            .all(|step| self.has_operation(step))
+    }
+
+    // Whether exactly one operation of the document has the step's operationId, and the step may call it.
+    fn has_operation(&self, step: &Json) -> bool
+        ensures { result ≡ operation_for self.now.description.now self.now.root.now step.now }
     {
         match self.places.get(text_at(step, "operationId")) {
             Some(Some((item, member))) => is_callable(
+                self.description,
                 step,
                 item.name.as_str(),
                 member.name.as_str(),
@@ -80,8 +111,9 @@ fn note<'a>(places: &mut Places<'a>, item: &'a Member, member: &'a Member) -> Re
     Ok(())
 }
 
-fn is_callable(step: &Json, path: &str, method: &str) -> bool
-    ensures { (url id : List ℕ) → result ≡ callable step.now (record { path = path.now; method = method.now; id = id; url = url }) }
+fn is_callable(description: &Json, step: &Json, path: &str, method: &str) -> bool
+    requires { has_form description.now ≡ true }
+    ensures { (url id : List ℕ) → result ≡ callable description.now step.now (record { path = path.now; method = method.now; id = id; url = url }) }
 {
-    method == "get" && is_filled_by(path, items_at(step, "parameters"))
+    method == "get" && is_filled_by(path, description, items_at(step, "parameters"))
 }

@@ -1,43 +1,28 @@
-ghost use Rattle.std.specs.Prelude.{◌≡◌, IfOk};
+ghost use Rattle.std.specs.Prelude.{◌≡◌, true, IfOk};
 ghost use Rattle.std.specs.List.{list_all};
-ghost use Rattle.std.specs.Char.{is_ascii_digit};
-ghost use Rattle.arz_bundle.specs.Forms.{is_source as source, is_source_document as source_document, source_members, is_server as server, server_members, is_operation as operation, operation_members, is_path as path, has_operations as operations_for, serves as serves_all};
-ghost use Rattle.arz_bundle.specs.FormWords.{is_in, is_object_of, is_list_of_one, is_object_with, is_server_url as server_url, is_version as version, is_openapi_version as openapi_version, is_operation_id as operation_id, is_some_of};
+ghost use Rattle.arz_json.specs.Tree.{has_form};
+ghost use Rattle.arz_bundle.specs.Forms.{is_source as source, is_source_document as source_document, source_members, is_server as server, server_members, is_operation as operation, operation_members, is_path as path};
+ghost use Rattle.arz_bundle.specs.FormWords.{is_in, is_object_of, is_list_of_one, is_object_with, is_server_url as server_url, is_openapi_version as openapi_version, is_operation_id as operation_id};
 
 use crate::forms::called::Operations;
 use crate::forms::texts::{is_short, short_text};
 use crate::forms::words::{has_each, is_info, sole_item};
-use arz_flow::items_at;
 use arz_json::{Json, Member};
 use arz_request::authority_of;
+use arz_rules::is_version;
 use std::alloc::{AllocError, Global};
 
 /// Whether the tree is a source document (OpenAPI 3.1.1, 4.8.1) that has the operations of the
 /// description's steps.
-pub(crate) fn is_source(alloc: Global, root: &Json, description: &Json) -> Result<bool, AllocError>
-    ensures { IfOk result (λ is. is ≡ source root.now description.now) }
+pub(crate) fn is_source(alloc: Global, description: &Json, root: &Json) -> Result<bool, AllocError>
+    requires { has_form description.now ≡ true }
+    ensures { IfOk result (λ is. is ≡ source description.now root.now) }
 {
     if !is_source_document(root) {
         return Ok(false);
     }
-    let operations = Operations::of(alloc, root)?;
-    Ok(serves(&operations, description))
-}
-
-fn serves(operations: &Operations, description: &Json) -> bool
-    ensures { result ≡ serves_all operations.now.root.now description.now }
-{
-    items_at(description, "workflows")
-        .iter()
-        .all(|workflow| has_operations(operations, workflow))
-}
-
-fn has_operations(operations: &Operations, workflow: &Json) -> bool
-    ensures { result ≡ operations_for operations.now.root.now workflow.now }
-{
-    items_at(workflow, "steps")
-        .iter()
-        .all(|step| operations.has_operation(step))
+    let operations = Operations::of(alloc, description, root)?;
+    Ok(operations.serve_all())
 }
 
 fn is_source_document(tree: &Json) -> bool
@@ -70,27 +55,9 @@ fn is_openapi_version(tree: &Json) -> bool
     ensures { result ≡ openapi_version tree.now }
 {
     match short_text(tree) {
-        Some(text) => is_version(text.as_bytes()),
+        Some(text) => is_version("3.1.", text),
         None => false,
     }
-}
-
-fn is_version(text: &[u8]) -> bool
-    ensures { result ≡ version text.now }
-{
-    text.starts_with(b"3.1.") && are_some_digits(&text[4..])
-}
-
-fn are_some_digits(bytes: &[u8]) -> bool
-    ensures { result ≡ is_some_of is_ascii_digit bytes.now }
-{
-    !bytes.is_empty() && are_digits(bytes)
-}
-
-fn are_digits(bytes: &[u8]) -> bool
-    ensures { result ≡ list_all is_ascii_digit bytes.now }
-{
-    bytes.iter().all(|byte| byte.is_ascii_digit())
 }
 
 fn is_one_server(tree: &Json) -> bool

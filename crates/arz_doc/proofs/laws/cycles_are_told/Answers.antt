@@ -1,5 +1,5 @@
-use Rattle.arz_doc.proofs.OneTest.{circular_tells}
+use Rattle.arz_doc.proofs.Numbered.{some_test}
 use Rattle.arz_doc.proofs.laws.cycles_are_told.Goals as goal
 
 pub returns : goal.returns
-returns c = circular_tells
+returns c = some_test

@@ -1,8 +1,0 @@
-use Rattle.std.proofs.Common.{◌≡◌, drop}
-use Rattle.std.specs.List.{list_all}
-use Rattle.arz_bundle.specs.Forms.{description_members}
-use Rattle.arz_bundle.specs.FormWords.{is_in}
-use Rattle.arz_bundle.proofs.forms.description.are_description_members.Given as goal
-
-abbrev pub invariant-loop-member : goal.invariant-loop-member
-invariant-loop-member l = list_all (is_in description_members) l.members ≡ list_all (is_in description_members) (drop l.member-index l.members)

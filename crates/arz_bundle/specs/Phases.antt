@@ -1,0 +1,48 @@
+-- The phases in which the files are judged: of each the refusal that it tells, if a rule of it fails.
+use Rattle.std.specs.Prelude.{◌≡◌, ℕ, Bool, List, [], ◌∷◌, codes, nat_le, if◌then◌else◌, Option, Some, None, option_map}
+use Rattle.arz_json.specs.declared.Json.{Json}
+use Rattle.arz_json.specs.declared.Refusal.{Refusal}
+use Rattle.arz_rules.specs.Phases.{Rule, refusal, first_failure}
+use Rattle.arz_doc.specs.Cycles.{TellsCycles}
+use Rattle.arz_doc.specs.Order.{rules}
+use Rattle.arz_bundle.specs.FileRules.{setup_rules, source_rules, replies_rules}
+use Rattle.arz_bundle.specs.Naming.{naming_rules}
+use Rattle.arz_bundle.specs.Unbuilt.{unbuilt_of_setup, unbuilt_of_description}
+
+-- the first of these rules that fails, as it is told with the document's label
+abbrev pub told : (label : List ℕ) → List Rule → Option Refusal
+told label rules = option_map (refusal label) (first_failure rules)
+
+-- what is told where two documents are judged in one phase: the lesser rule, and at one rule the first document's
+abbrev pub earlier : Option Refusal → Option Refusal → Option Refusal
+earlier None other = other
+earlier (Some r) None = Some r
+earlier (Some r) (Some s) = if nat_le r.rule s.rule then Some r else Some s
+
+-- ---- phases
+
+abbrev pub setup_told : (setup : Json) → Option Refusal
+setup_told setup = told (codes "setup") (setup_rules setup)
+
+-- the description by itself, where a test tells which workflows depend on themselves
+abbrev pub described : (is_cyclic : ℕ → Bool) → (description : Json) → Option Refusal
+described is_cyclic description = told (codes "arazzo") (rules is_cyclic description)
+
+-- the description, and what the setup names in it
+abbrev pub description_told : (is_cyclic : ℕ → Bool) → (setup description : Json) → Option Refusal
+description_told is_cyclic setup description = earlier (told (codes "setup") (naming_rules description setup)) (described is_cyclic description)
+
+-- this is told of them, by a test that is exact
+abbrev pub IsDescribed : (setup description : Json) → Option Refusal → Type 0
+IsDescribed setup description told = (is_cyclic : ℕ → Bool) × TellsCycles description is_cyclic × (told ≡ description_told is_cyclic setup description)
+
+-- what isn't built yet
+abbrev pub unbuilt_told : (setup description : Json) → Option Refusal
+unbuilt_told setup description =
+    earlier (told (codes "setup") ((0, unbuilt_of_setup setup) ∷ [])) (told (codes "arazzo") ((0, unbuilt_of_description description) ∷ []))
+
+abbrev pub source_told : (label : List ℕ) → (description source : Json) → Option Refusal
+source_told label description source = told label (source_rules description source)
+
+abbrev pub replies_told : (replies : Json) → Option Refusal
+replies_told replies = told (codes "replies") (replies_rules replies)
