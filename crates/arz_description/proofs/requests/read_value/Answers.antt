@@ -1,0 +1,6 @@
+use Rattle.std.proofs.Common.{codes}
+use Rattle.arz_description.proofs.Sound.{under}
+use Rattle.arz_description.proofs.requests.read_value.Goals as goal
+
+pub read-requires : goal.read-requires
+read-requires c = under (codes "value") c.args.tree.now c.in-Some.value.now c.in-Some.ensures c.requires
