@@ -1,4 +1,4 @@
-use Rattle.std.proofs.Common.{◌≡◌, ◌<◌, ◌^◌, ◌∙◌, ℕ, List, [], ◌∷◌, ◌++◌, Bool, Vec, Global, ap, append-nil, append_assoc, arith}
+use Rattle.std.proofs.Common.{◌≡◌, ◌<◌, ◌^◌, ◌∙◌, ℕ, List, [], ◌∷◌, ◌++◌, Bool, cond, Vec, Global, ap, append-nil, append_assoc, arith}
 use Rattle.std.specs.Int.{w32, to_be_bytes}
 use Rattle.arz_journal.specs.Journal.{payload, Spells}
 use Rattle.arz_wire.specs.declared.entry.Entry.{Entry}
@@ -13,7 +13,7 @@ Spelt m = (x : Entry) × Spells m.0 m.1.items x
 
 of_held : (m : Mark × Vec ℕ Global) (n : ℕ) (closed : Bool) (v : Vec ℕ Global) → n < 2 ^ 32 → m ≡ (mark.Held n closed, v) → Spelt m
 of_held m n closed v small is =
-    (Held n closed v.items, (small, ap (λ (p : Mark × Vec ℕ Global). payload p.0 p.1.items) is ∙ ap (λ bytes. 3 ∷ bytes) (append_assoc (to_be_bytes w32 n) _ v.items)))
+    (Held n closed v.items, (small, ap (λ (p : Mark × Vec ℕ Global). payload p.0 p.1.items) is ∙ ap (λ bytes. 3 ∷ bytes) (append_assoc (to_be_bytes w32 n) (cond closed 1 0 ∷ []) v.items)))
 
 of_begun : (m : Mark × Vec ℕ Global) (n : ℕ) (v : Vec ℕ Global) → n < 2 ^ 32 → v.items ≡ [] → m ≡ (mark.Begun n, v) → Spelt m
 of_begun m n v small none is =
