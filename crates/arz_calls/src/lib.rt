@@ -3,8 +3,6 @@
 
 mod calls;
 mod descriptions;
-mod journals;
-mod replies;
 mod styles;
 mod wires;
 

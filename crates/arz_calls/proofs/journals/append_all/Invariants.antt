@@ -1,6 +1,0 @@
-use Rattle.std.proofs.Common.{◌≡◌, true}
-use Rattle.arz_journal.specs.Logs.{Ready}
-use Rattle.arz_calls.proofs.journals.append_all.Given as goal
-
-abbrev pub invariant-loop-item : goal.invariant-loop-item
-invariant-loop-item g l = Ready l.log (g.W.World.told l.world) × (l.log.is_open ≡ true) × (l.log.is_ended ≡ true)

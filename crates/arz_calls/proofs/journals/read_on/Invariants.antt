@@ -1,6 +1,0 @@
-use Rattle.std.proofs.Common.{◌≡◌, true}
-use Rattle.arz_journal.specs.Logs.{Ready}
-use Rattle.arz_calls.proofs.journals.read_on.Given as goal
-
-abbrev pub invariant-entries : goal.invariant-entries
-invariant-entries g l = Ready l.log (g.W.World.told l.world) × (l.log.is_open ≡ true)
