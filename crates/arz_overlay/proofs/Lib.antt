@@ -9,3 +9,7 @@ pub mod Grouped
 pub mod Removals
 pub mod Targets
 pub mod FirstTargets
+pub mod Depths
+pub mod Kept
+pub mod PlacesOnce
+pub mod Overlays

@@ -7,4 +7,7 @@ pub mod Faults
 pub mod Groups
 pub mod Actions
 pub mod Documents
+pub mod Steps
+pub mod Overlaid
 pub mod Applied
+pub mod Depths

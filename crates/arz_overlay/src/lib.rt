@@ -4,6 +4,7 @@
 //! places, each in time that doesn't grow with what stays as it is.
 #![tactic(auto)]
 
+mod applying;
 mod changing;
 mod children;
 mod document;
@@ -13,9 +14,12 @@ pub mod laws;
 mod looking;
 mod members;
 mod merging;
+mod once;
 mod removing;
 mod tally;
+mod working;
 
+pub use applying::apply;
 pub use changing::{ChangeFault, update_at};
 pub use document::Overlay;
 pub use fault::OverlayFault;

@@ -43,7 +43,7 @@ fn value_of(member: Option<&Member>) -> Option<&Json>
     }
 }
 
-fn is_container(value: Option<&Json>) -> bool
+pub(crate) fn is_container(value: Option<&Json>) -> bool
     ensures { result ≡ is_a_container (option_copied value.entry) }
 {
     match value {

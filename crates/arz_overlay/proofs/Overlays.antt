@@ -1,0 +1,117 @@
+-- What an action comes to, and what the actions in order come to.
+use Rattle.std.proofs.Common.{◌≡◌, ◌≢◌, ℕ, suc, ◌≤◌, List, [], ◌∷◌, Bool, true, Option, Some, None, Result, Ok, Err, refl, sym, ap, ◌∙◌, subst, arith}
+use Rattle.std.specs.Prelude.{IfErr}
+use Rattle.arz_json.specs.Answer.{Fails, Gives}
+use Rattle.arz_json.specs.declared.tree.Json.{Json}
+use Rattle.arz_json.specs.declared.tree.Refusal.{Refusal}
+use Rattle.arz_rx.specs.Patterns.{PatternsView, Rose}
+use Rattle.arz_rules.specs.declared.phases.RuleFault.{RuleFault}
+use Rattle.arz_rules.specs.declared.phases.RuleFault.TheVariants as rule_fault
+use Rattle.arz_rules.specs.Phases.{cause, refusal}
+use Rattle.arz_path.specs.Outcome.{Outcome, given, wide, untold, Covers}
+use Rattle.arz_overlay.specs.declared.fault.OverlayFault.{OverlayFault}
+use Rattle.arz_overlay.specs.declared.fault.OverlayFault.TheVariants as fault
+use Rattle.arz_overlay.specs.declared.working.Work.{Work}
+use Rattle.arz_overlay.specs.Applied.{refusal_in, from_rule, Says, Applies, told_at, tree_of_work}
+use Rattle.arz_overlay.specs.Documents.{action_place}
+use Rattle.arz_overlay.specs.Overlaid.{after_action, done_after}
+use Rattle.arz_overlay.specs.Steps.{done_at, over_limit}
+use Rattle.arz_overlay.specs.Removal.{Places}
+
+-- ---- faults
+
+pub refusal_in-from_rule : (f : RuleFault) → refusal_in (from_rule f) ≡ cause f
+refusal_in-from_rule (rule_fault.Refused r) = refl
+refusal_in-from_rule rule_fault.Memory = refl
+
+pub from_rule-no_pattern : (f : RuleFault) → from_rule f ≢ fault.Pattern
+from_rule-no_pattern (rule_fault.Refused r) e = cc
+from_rule-no_pattern rule_fault.Memory e = cc
+
+-- whatever the call would have given
+pub fails_alike : {A B : Type 0} (o : Option Refusal) (r : Refusal) → (let m : Result A Refusal = Err r in Fails o m) → (let m : Result B Refusal = Err r in Fails o m)
+fails_alike None r h = tt
+fails_alike (Some x) r h = let is : r ≡ x = cc in ap (λ y. Err y) is
+
+-- ---- one action
+
+abbrev pub alone : Json → Option (Result Json Refusal)
+alone j = Some (Ok j)
+
+told_alone : (label : List ℕ) (k : ℕ) (r : Result Json ℕ) → after_action label k alone (Some r) ≡ Some (told_at label k r)
+told_alone label k (Ok j) = refl
+told_alone label k (Err rule) = refl
+
+abbrev Tells : Result Work OverlayFault → Type 0
+Tells r = IfErr r (λ e. e ≢ fault.Pattern)
+
+pub applies_told : (r : Result Work OverlayFault) (m : Result Json Refusal) (old new : PatternsView) → Gives tree_of_work refusal_in r m → Tells r → Applies tree_of_work r (Some m) old new
+applies_told (Ok w) m old new g n = g
+applies_told (Err (fault.Refused x)) m old new g n = g
+applies_told (Err fault.Pattern) m old new g n = absurd (n refl)
+applies_told (Err fault.Memory) m old new g n = tt
+
+applies_untold : (r : Result Work OverlayFault) (old new : PatternsView) → Tells r → Applies tree_of_work r None old new
+applies_untold (Ok w) old new n = tt
+applies_untold (Err (fault.Refused x)) old new n = tt
+applies_untold (Err fault.Pattern) old new n = absurd (n refl)
+applies_untold (Err fault.Memory) old new n = tt
+
+-- at the places that were selected
+pub applies_given : (label : List ℕ) (k : ℕ) (action j : Json) (ps : Places) (o : Outcome Places) (r : Result Work OverlayFault) (old new : PatternsView)
+    → Covers o (given ps) → Gives tree_of_work refusal_in r (told_at label k (done_at action ps j)) → Tells r → Applies tree_of_work r (after_action label k alone (done_after action j o)) old new
+applies_given label k action j ps (given qs) r old new h g n =
+    let is : qs ≡ ps = cc in
+    subst (λ m. Applies tree_of_work r m old new) (sym (told_alone label k (done_at action qs j)))
+    (applies_told r (told_at label k (done_at action qs j)) old new (subst (λ p. Gives tree_of_work refusal_in r (told_at label k (done_at action p j))) (sym is) g) n)
+applies_given label k action j ps wide r old new h g n = absurd (cc)
+applies_given label k action j ps untold r old new h g n = applies_untold r old new n
+
+-- where too many are selected
+pub applies_wide : (label : List ℕ) (k : ℕ) (action j : Json) (o : Outcome Places) (e : OverlayFault) (old new : PatternsView)
+    → Covers o wide → (let m : Result Json Refusal = Err (refusal label (over_limit, action_place k)) in Fails (refusal_in e) m) → e ≢ fault.Pattern
+    → (let r : Result Work OverlayFault = Err e in Applies tree_of_work r (after_action label k alone (done_after action j o)) old new)
+applies_wide label k action j (given qs) e old new h g n = absurd (cc)
+applies_wide label k action j wide e old new h g n = applies_told (Err e) (Err (refusal label (over_limit, action_place k))) old new g n
+applies_wide label k action j untold e old new h g n = applies_untold (Err e) old new n
+
+-- ---- actions in order
+
+-- what is meant is untold, or this
+abbrev pub Follows : Option (Result Json Refusal) → Option (Result Json Refusal) → Type 0
+Follows None x = Unit {0}
+Follows (Some m) x = x ≡ Some m
+
+abbrev pub Rest : Type 0
+Rest = Json → Option (Result Json Refusal)
+
+-- an action was done, and the others follow
+pub follows_on : (m : Option (Result Json Refusal)) (label : List ℕ) (k : ℕ) (next : Rest) (d : Option (Result Json ℕ)) (j : Json)
+    → Says (after_action label k alone d) (Ok j) → Follows m (after_action label k next d) → Follows m (next j)
+follows_on None label k next d j s f = tt
+follows_on (Some m) label k next None j s f = absurd (cc)
+follows_on (Some m) label k next (Some (Err rule)) j s f = absurd (cc)
+follows_on (Some m) label k next (Some (Ok i)) j s f = let is : i ≡ j = cc in sym (ap next is) ∙ f
+
+refused_on : (m : Option (Result Json Refusal)) (label : List ℕ) (k : ℕ) (next : Rest) (d : Option (Result Json ℕ)) (x : Refusal)
+    → Says (after_action label k alone d) (Err x) → Follows m (after_action label k next d) → Says m (Err x)
+refused_on None label k next d x s f = tt
+refused_on (Some m) label k next None x s f = absurd (cc)
+refused_on (Some m) label k next (Some (Err rule)) x s f = let is : Err (refusal label (rule, action_place k)) ≡ m = cc in sym is ∙ s
+refused_on (Some m) label k next (Some (Ok i)) x s f = absurd (cc)
+
+-- an action was not done
+pub fails_on : (m : Option (Result Json Refusal)) (label : List ℕ) (k : ℕ) (next : Rest) (d : Option (Result Json ℕ)) (e : OverlayFault) (first old new : PatternsView)
+    → (let r : Result Work OverlayFault = Err e in Applies tree_of_work r (after_action label k alone d) old new) → Follows m (after_action label k next d) → first.too_big ≤ old.too_big
+    → (let r : Result Json OverlayFault = Err e in Applies (λ j. j) r m first new)
+fails_on m label k next d (fault.Refused x) first old new a f h = refused_on m label k next d x a f
+fails_on m label k next d fault.Pattern first old new a f h = omega (arith, a, h)
+fails_on m label k next d fault.Memory first old new a f h = tt
+
+pub says_at_end : (m : Option (Result Json Refusal)) (j : Json) → Follows m (alone j) → Says m (Ok j)
+says_at_end None j f = tt
+says_at_end (Some m) j f = let is : Ok j ≡ m = cc in sym is
+
+pub follows_itself : (m : Option (Result Json Refusal)) → Follows m m
+follows_itself None = tt
+follows_itself (Some m) = refl
