@@ -17,14 +17,14 @@ use Rattle.arz_json.specs.declared.place.Token.TheVariants.{Name, Index}
 use Rattle.arz_json.proofs.Layers.{folded-List, folded-Object, values_of-map}
 use Rattle.arz_json.proofs.Trades.{is_list, is_object}
 use Rattle.arz_json.proofs.Induction.{Each, EachValue, Levels, induction}
-use Rattle.arz_overlay.specs.Actions.{child_at, at_child, standing}
-use Rattle.arz_overlay.specs.Children.{child_of, changed, changed_child, changed_value}
+use Rattle.arz_changes.specs.Actions.{child_at, at_child, standing}
+use Rattle.arz_changes.specs.Children.{child_of, changed, changed_child, changed_value}
 use Rattle.arz_overlay.specs.Depths.{above_in, above, reach}
-use Rattle.arz_overlay.specs.Merging.{Merge, member, merged, merge_of, merged_if, updated, updated_in, no_target, with_member, with_member_by, with_members, added_items, items_in, members_in, items_there, members_there}
-use Rattle.arz_overlay.specs.Removal.{Places, below, has_end, without, items_kept, members_kept}
-use Rattle.arz_overlay.proofs.Lists.{Some_inj}
-use Rattle.arz_overlay.proofs.MergedLevels.{merged_list, merged_object}
-use Rattle.arz_overlay.proofs.Removals.{without_list, without_object}
+use Rattle.arz_changes.specs.Merging.{Merge, member, merged, merge_of, merged_if, updated, updated_in, no_target, with_member, with_member_by, with_members, added_items, items_in, members_in, items_there, members_there}
+use Rattle.arz_changes.specs.Removal.{Places, below, has_end, without, items_kept, members_kept}
+use Rattle.arz_changes.proofs.Lists.{Some_inj}
+use Rattle.arz_changes.proofs.MergedLevels.{merged_list, merged_object}
+use Rattle.arz_changes.proofs.Removals.{without_list, without_object}
 
 abbrev pub items_depth : List Json → ℕ
 items_depth js = largest (map depth js)

@@ -17,7 +17,7 @@ use Rattle.arz_rules.proofs.InForm.{list_items, member_form}
 use Rattle.arz_rules.proofs.Places.{least-append, least-under, lesser_grouped}
 use Rattle.arz_overlay.specs.Applied.{targets}
 use Rattle.arz_overlay.specs.Documents.{target_of, is_query, bad_target}
-use Rattle.arz_overlay.proofs.Lists.{drop_at}
+use Rattle.arz_changes.proofs.Lists.{drop_at}
 
 before_item : (k i : ℕ) (p : List Token) (o : Option (List Token)) → k < i → lesser (Some (Index k ∷ p)) (option_map (λ q. Index i ∷ q) o) ≡ Some (Index k ∷ p)
 before_item k i p None h = refl

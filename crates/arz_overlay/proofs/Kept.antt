@@ -11,12 +11,12 @@ use Rattle.arz_json.specs.declared.tree.Json.TheVariants.{Null, Flag, Int, Text,
 use Rattle.arz_json.specs.declared.tree.Member.{Member}
 use Rattle.arz_json.specs.declared.place.Token.TheVariants.{Name, Index}
 use Rattle.arz_json.proofs.Induction.{Each, EachValue, Levels, induction}
-use Rattle.arz_overlay.specs.Merging.{member}
-use Rattle.arz_overlay.specs.Removal.{Places, below, has_end, without, items_kept, members_kept}
-use Rattle.arz_overlay.proofs.Merges.{form_of}
-use Rattle.arz_overlay.proofs.Forms.{both, items_form, members_order, values_form, list_form, object_form}
-use Rattle.arz_overlay.proofs.Lists.{left, right}
-use Rattle.arz_overlay.proofs.Removals.{without_list, without_object}
+use Rattle.arz_changes.specs.Merging.{member}
+use Rattle.arz_changes.specs.Removal.{Places, below, has_end, without, items_kept, members_kept}
+use Rattle.arz_changes.proofs.Merges.{form_of}
+use Rattle.arz_changes.proofs.Forms.{both, items_form, members_order, values_form, list_form, object_form}
+use Rattle.arz_changes.proofs.Lists.{left, right}
+use Rattle.arz_changes.proofs.Removals.{without_list, without_object}
 
 abbrev Keeps : Json → Type 0
 Keeps j = has_form j ≡ true → (ps : Places) → has_form (without j ps) ≡ true

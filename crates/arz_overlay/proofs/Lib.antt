@@ -1,12 +1,3 @@
-pub mod Merges
-pub mod Searched
-pub mod Weights
-pub mod Lists
-pub mod MergedLevels
-pub mod Forms
-pub mod Changes
-pub mod Grouped
-pub mod Removals
 pub mod Targets
 pub mod FirstTargets
 pub mod Depths

@@ -16,7 +16,7 @@ use Rattle.arz_overlay.specs.Applied.{refusal_in, from_rule, Says, Applies, told
 use Rattle.arz_overlay.specs.Documents.{action_place}
 use Rattle.arz_overlay.specs.Overlaid.{after_action, done_after}
 use Rattle.arz_overlay.specs.Steps.{done_at, over_limit}
-use Rattle.arz_overlay.specs.Removal.{Places}
+use Rattle.arz_changes.specs.Removal.{Places}
 
 -- ---- faults
 

@@ -16,11 +16,11 @@ use Rattle.arz_wire.specs.Spelling.{spelling, counted, number}
 use Rattle.arz_wire.proofs.Once.{one_spelling}
 use Rattle.arz_overlay.specs.Applied.{token_tree, key_of, has_key}
 use Rattle.arz_overlay.specs.Steps.{same_place, is_among, once_after}
-use Rattle.arz_overlay.specs.Removal.{Places, same_token}
+use Rattle.arz_changes.specs.Removal.{Places, same_token}
 use Rattle.arz_overlay.specs.declared.once.KeySet.{KeySet}
-use Rattle.arz_overlay.proofs.Forms.{both}
-use Rattle.arz_overlay.proofs.Lists.{drop_at, left, right, Some_inj}
-use Rattle.arz_overlay.specs.Groups.{place_tokens, places_seen}
+use Rattle.arz_changes.proofs.Forms.{both}
+use Rattle.arz_changes.proofs.Lists.{drop_at, left, right, Some_inj}
+use Rattle.arz_changes.specs.Groups.{place_tokens, places_seen}
 
 -- ---- bytes
 

@@ -20,8 +20,8 @@ use Rattle.arz_rules.specs.Phases.{failure_or, told_or, refusal}
 use Rattle.arz_rules.specs.Place.{least, under}
 use Rattle.arz_rules.specs.Sites.{in_items}
 use Rattle.arz_wire.specs.Spelling.{spelling}
-use Rattle.arz_overlay.specs.declared.changing.ChangeFault.{ChangeFault}
-use Rattle.arz_overlay.specs.declared.changing.ChangeFault.TheVariants as change
+use Rattle.arz_changes.specs.declared.changing.ChangeFault.{ChangeFault}
+use Rattle.arz_changes.specs.declared.changing.ChangeFault.TheVariants as change
 use Rattle.arz_overlay.specs.declared.fault.OverlayFault.{OverlayFault}
 use Rattle.arz_overlay.specs.declared.fault.OverlayFault.TheVariants as fault
 use Rattle.arz_overlay.specs.declared.fault.StepFault.{StepFault}
@@ -29,8 +29,8 @@ use Rattle.arz_overlay.specs.declared.fault.StepFault.TheVariants as step
 use Rattle.arz_overlay.specs.declared.once.KeySet.{KeySet}
 use Rattle.arz_overlay.specs.declared.working.Work.{Work}
 use Rattle.arz_overlay.specs.Documents.{actions_in, action_place, target_of, is_query, bad_target}
-use Rattle.arz_overlay.specs.Merging.{no_target, no_match}
-use Rattle.arz_overlay.specs.Weight.{weight}
+use Rattle.arz_changes.specs.Merging.{no_target, no_match}
+use Rattle.arz_changes.specs.Weight.{weight}
 
 -- the refusal of a fault; of want of memory, and of a pattern, there is none
 abbrev pub refusal_in : OverlayFault → Option Refusal

@@ -5,7 +5,7 @@ use Rattle.arz_json.specs.declared.tree.Json.{Json, out-Json}
 use Rattle.arz_json.specs.declared.tree.Json.TheOpen.{Json-F}
 use Rattle.arz_json.specs.declared.tree.Member.{Member}
 use Rattle.arz_json.specs.declared.place.Token.{Token}
-use Rattle.arz_overlay.specs.Actions.{standing}
+use Rattle.arz_changes.specs.Actions.{standing}
 
 abbrev pub above_in : Json-F Json Member → ℕ → ℕ
 above_in (Json-F.List js) n = n + 1

@@ -1,11 +1,3 @@
-pub mod Children
-pub mod Merging
-pub mod Removal
-pub mod Weight
-pub mod Members
-pub mod Faults
-pub mod Groups
-pub mod Actions
 pub mod Documents
 pub mod Steps
 pub mod Overlaid

@@ -7,7 +7,7 @@ use Rattle.arz_path.specs.Outcome.{Outcome, given, wide, untold}
 use Rattle.arz_path.specs.Selected.{Setting, places}
 use Rattle.arz_rules.specs.Phases.{refusal}
 use Rattle.arz_overlay.specs.Documents.{Document, actions_in, target_of, segments_of, action_place}
-use Rattle.arz_overlay.specs.Removal.{Places}
+use Rattle.arz_changes.specs.Removal.{Places}
 use Rattle.arz_overlay.specs.Steps.{over_limit, done_at}
 
 -- ---- an action at what its target selects. None: it needs a pattern of which nothing is told

@@ -4,12 +4,12 @@ use Rattle.arz_json.specs.Answer.{◌>>=◌}
 use Rattle.arz_json.specs.Tree.{depth}
 use Rattle.arz_json.specs.declared.tree.Json.{Json}
 use Rattle.arz_json.specs.declared.place.Token.{Token}
-use Rattle.arz_overlay.specs.Actions.{is_container, standing, removal_rule}
-use Rattle.arz_overlay.specs.Children.{changed}
+use Rattle.arz_changes.specs.Actions.{is_container, standing, removal_rule}
+use Rattle.arz_changes.specs.Children.{changed}
 use Rattle.arz_overlay.specs.Documents.{update_of, removes}
-use Rattle.arz_overlay.specs.Merging.{updated, no_target}
-use Rattle.arz_overlay.specs.Removal.{Places, same_token, without}
-use Rattle.arz_overlay.specs.Weight.{weight}
+use Rattle.arz_changes.specs.Merging.{updated, no_target}
+use Rattle.arz_changes.specs.Removal.{Places, same_token, without}
+use Rattle.arz_changes.specs.Weight.{weight}
 
 -- ---- places, each once
 

@@ -8,7 +8,7 @@ ghost use Rattle.arz_path.specs.Results.{Asked};
 ghost use Rattle.arz_rules.specs.Phases.{refusal};
 ghost use Rattle.arz_overlay.specs.Applied.{Applies, Keeps, refusal_in, told_at, tree_of_work};
 ghost use Rattle.arz_overlay.specs.Documents.{action_place, target_of, is_query};
-ghost use Rattle.arz_overlay.specs.Groups.{places_seen};
+ghost use Rattle.arz_changes.specs.Groups.{places_seen};
 ghost use Rattle.arz_overlay.specs.Overlaid.{overlaid, done, after_action};
 ghost use Rattle.arz_overlay.specs.Steps.{done_at as done_at_places};
 

@@ -4,7 +4,7 @@ ghost use Rattle.arz_overlay.specs.Applied.{from_rule, from_change};
 ghost use Rattle.arz_overlay.specs.declared.fault.OverlayFault.TheVariants.{Memory};
 ghost use Rattle.arz_overlay.specs.declared.fault.StepFault.TheVariants.{Memory as StepMemory};
 
-use crate::changing::ChangeFault;
+use arz_changes::ChangeFault;
 use arz_json::Refusal;
 use arz_rules::RuleFault;
 use std::alloc::{AllocError, AllocFailed};

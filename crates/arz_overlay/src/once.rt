@@ -3,10 +3,10 @@ ghost use Rattle.std.specs.Prelude.{◌≡◌, ◌++◌, ◌∷◌, [], ◌||◌
 ghost use Rattle.std.specs.Str.{bytes_eq};
 ghost use Rattle.arz_json.specs.Tree.{IsWellFormed};
 ghost use Rattle.arz_overlay.specs.Applied.{token_tree as tree_of_token, key_of, has_key};
-ghost use Rattle.arz_overlay.specs.Groups.{places_seen, tokens_of, ways_seen};
+ghost use Rattle.arz_changes.specs.Groups.{places_seen, tokens_of, ways_seen};
 ghost use Rattle.arz_overlay.specs.Steps.{each_once as once};
 
-use crate::groups::Way;
+use arz_changes::Way;
 use arz_json::{Bytes, Json, Place, Token};
 use arz_wire::write;
 use std::alloc::{AllocError, Global};

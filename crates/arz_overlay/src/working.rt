@@ -3,21 +3,17 @@ ghost use Rattle.std.specs.Prelude.{◌≡◌, ◌+◌, ◌-◌, ◌≤◌, leng
 ghost use Rattle.std.specs.Option.{option_copied};
 ghost use Rattle.arz_json.specs.Answer.{Gives};
 ghost use Rattle.arz_json.specs.Tree.{has_form, depth};
-ghost use Rattle.arz_overlay.specs.Actions.{standing as stands, removal_rule};
+ghost use Rattle.arz_changes.specs.Actions.{standing as stands, removal_rule};
 ghost use Rattle.arz_overlay.specs.Applied.{Keeps, rule_in, tree_of_work};
 ghost use Rattle.arz_overlay.specs.Depths.{above, reach};
 ghost use Rattle.arz_overlay.specs.Documents.{removes as is_removal, update_of};
-ghost use Rattle.arz_overlay.specs.Groups.{places_seen, ways_seen};
+ghost use Rattle.arz_changes.specs.Groups.{places_seen, ways_seen};
 ghost use Rattle.arz_overlay.specs.Steps.{done_at as done, removed as removed_at, updated_at, merged_at as merged_once, merged_at_each as merged_each, target_rule, is_over as is_over_limits};
-ghost use Rattle.arz_overlay.specs.Weight.{weight as weight_of};
+ghost use Rattle.arz_changes.specs.Weight.{weight as weight_of};
 
-use crate::changing::update_at;
 use crate::fault::StepFault;
-use crate::groups::Way;
-use crate::looking::{is_container, removal_rule_of, standing};
 use crate::once::{all_ways, each_once};
-use crate::removing::without;
-use crate::tally::Tally;
+use arz_changes::{Tally, Way, is_container, removal_rule_of, standing, update_at, without};
 use arz_json::{Json, Place, Token, copy, is_deeper};
 use arz_wire::tree_length;
 use std::alloc::{AllocError, Global};

@@ -1,7 +1,7 @@
 use Rattle.std.proofs.Common.{◌≡◌, true, subst, sym, ap}
 use Rattle.arz_query.specs.Answers.{Spells}
 use Rattle.arz_overlay.specs.Documents.{target_of, segments_of, is_query}
-use Rattle.arz_overlay.specs.Groups.{places_seen}
+use Rattle.arz_changes.specs.Groups.{places_seen}
 use Rattle.arz_overlay.proofs.Targets.{spelled_target}
 use Rattle.arz_overlay.proofs.Overlays.{applies_given, applies_wide}
 use Rattle.arz_overlay.proofs.applying.acted.Goals as goal

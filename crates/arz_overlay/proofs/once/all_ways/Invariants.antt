@@ -1,6 +1,6 @@
 use Rattle.std.proofs.Common.{◌≡◌, ◌++◌, drop}
-use Rattle.arz_overlay.specs.Groups.{places_seen}
-use Rattle.arz_overlay.specs.Groups.{ways_seen}
+use Rattle.arz_changes.specs.Groups.{places_seen}
+use Rattle.arz_changes.specs.Groups.{ways_seen}
 use Rattle.arz_overlay.proofs.once.all_ways.Given as goal
 
 abbrev pub invariant-loop-place : goal.invariant-loop-place

@@ -1,7 +1,7 @@
 use Rattle.std.proofs.Common.{◌≡◌, ◌++◌, List, ℕ, take, drop}
-use Rattle.arz_overlay.specs.Groups.{places_seen}
+use Rattle.arz_changes.specs.Groups.{places_seen}
 use Rattle.arz_overlay.specs.Applied.{has_key}
-use Rattle.arz_overlay.specs.Groups.{ways_seen}
+use Rattle.arz_changes.specs.Groups.{ways_seen}
 use Rattle.arz_overlay.specs.Steps.{each_once, once_after}
 use Rattle.arz_overlay.proofs.PlacesOnce.{keyed}
 use Rattle.arz_overlay.proofs.once.each_once.Given as goal

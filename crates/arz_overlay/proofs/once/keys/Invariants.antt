@@ -1,5 +1,5 @@
 use Rattle.std.proofs.Common.{◌≡◌, ◌++◌, map, drop}
-use Rattle.arz_overlay.specs.Groups.{places_seen}
+use Rattle.arz_changes.specs.Groups.{places_seen}
 use Rattle.arz_overlay.specs.Applied.{key_of}
 use Rattle.arz_overlay.proofs.once.keys.Given as goal
 

@@ -1,7 +1,7 @@
 use Rattle.std.proofs.Common.{◌≡◌, ◌≤◌, max, drop}
 use Rattle.arz_json.specs.Tree.{depth}
 use Rattle.arz_overlay.specs.Applied.{Keeps}
-use Rattle.arz_overlay.specs.Groups.{ways_seen}
+use Rattle.arz_changes.specs.Groups.{ways_seen}
 use Rattle.arz_overlay.specs.Steps.{merged_at_each}
 use Rattle.arz_overlay.proofs.working.merged_at_each.Given as goal
 

@@ -1,6 +1,6 @@
 use Rattle.std.proofs.Common.{◌≡◌, drop}
 use Rattle.arz_overlay.specs.Steps.{target_rule}
-use Rattle.arz_overlay.specs.Groups.{ways_seen}
+use Rattle.arz_changes.specs.Groups.{ways_seen}
 use Rattle.arz_overlay.proofs.working.target_rule_of.Given as goal
 
 abbrev pub invariant-loop-way : goal.invariant-loop-way

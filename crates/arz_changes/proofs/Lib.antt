@@ -1,0 +1,9 @@
+pub mod Merges
+pub mod Searched
+pub mod Weights
+pub mod Lists
+pub mod MergedLevels
+pub mod Forms
+pub mod Changes
+pub mod Grouped
+pub mod Removals
