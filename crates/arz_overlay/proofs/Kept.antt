@@ -1,20 +1,28 @@
--- What a removal leaves of a tree in form is in form.
-use Rattle.std.proofs.Common.{◌≡◌, ℕ, ◌+◌, List, [], ◌∷◌, map, Bool, true, false, ◌&&◌, cond, refl, sym, ap, ◌∙◌, rules}
+-- What a removal, or an update at a place, leaves of a tree in form is in form.
+use Rattle.std.proofs.Common.{◌≡◌, ℕ, ◌+◌, List, [], ◌∷◌, map, Bool, true, false, ◌&&◌, cond, Option, Some, None, Result, Ok, Err, refl, sym, ap, ◌∙◌, rules}
+use Rattle.std.specs.Prelude.{slice_get}
 use Rattle.std.specs.declared.cmp.Ordering.{Ordering}
 use Rattle.std.specs.declared.cmp.Ordering.TheVariants.{Less, Equal, Greater}
 use Rattle.std.specs.Ordering.{nat_cmp, is_lt}
 use Rattle.std.specs.Cmp.Lexicographic.{slice_cmp}
 use Rattle.std.proofs.lemmas.Cmp.{nat_list_cmp_total}
+use Rattle.arz_json.specs.Answer.{◌>>=◌}
+use Rattle.arz_json.specs.Put.{children, set_child}
 use Rattle.arz_json.specs.Tree.{has_form, is_below_first}
-use Rattle.arz_json.specs.declared.tree.Json.{Json, the_lemmas}
+use Rattle.arz_json.specs.declared.tree.Json.{Json, out-Json, the_lemmas}
+use Rattle.arz_json.specs.declared.tree.Json.TheOpen.{Json-F}
 use Rattle.arz_json.specs.declared.tree.Json.TheVariants.{Null, Flag, Int, Text, List as ListOf, Object, Opaque}
 use Rattle.arz_json.specs.declared.tree.Member.{Member}
+use Rattle.arz_json.specs.declared.place.Token.{Token}
 use Rattle.arz_json.specs.declared.place.Token.TheVariants.{Name, Index}
 use Rattle.arz_json.proofs.Induction.{Each, EachValue, Levels, induction}
-use Rattle.arz_changes.specs.Merging.{member}
+use Rattle.arz_json.proofs.Puts.{form_in, child_form}
+use Rattle.arz_json.proofs.Trades.{is_list}
+use Rattle.arz_changes.specs.Children.{child_of, changed, changed_child, changed_value}
+use Rattle.arz_changes.specs.Merging.{member, merged_if, updated, updated_in, no_target}
 use Rattle.arz_changes.specs.Removal.{Places, below, has_end, without, items_kept, members_kept}
 use Rattle.arz_changes.proofs.Merges.{form_of}
-use Rattle.arz_changes.proofs.Forms.{both, items_form, members_order, values_form, list_form, object_form}
+use Rattle.arz_changes.proofs.Forms.{both, items_form, items_form-append, members_order, values_form, list_form, object_form, merged_form}
 use Rattle.arz_changes.proofs.Lists.{left, right}
 use Rattle.arz_changes.proofs.Removals.{without_list, without_object}
 
@@ -84,3 +92,50 @@ levels = record {
 
 pub without_form : (j : Json) (ps : Places) → has_form j ≡ true → has_form (without j ps) ≡ true
 without_form j ps h = induction Keeps levels j h ps
+
+-- ---- an update at a place
+
+pub Ok_inj : {A F : Type 0} (x y : A) → (let r : Result A F = Ok x in r ≡ Ok y) → x ≡ y
+Ok_inj x y e = cc
+
+merged_if-form : (u j k : Json) (x : Json-F Json Member) → merged_if u j x ≡ Ok k → has_form u ≡ true → has_form j ≡ true → has_form k ≡ true
+merged_if-form u j k (Json-F.Object us) e h f = ap has_form (sym (Ok_inj _ _ e)) ∙ merged_form u (Some j) h f
+merged_if-form u j k (Json-F.List js) e h f = absurd (cc)
+merged_if-form u j k Json-F.Null e h f = absurd (cc)
+merged_if-form u j k (Json-F.Flag b) e h f = absurd (cc)
+merged_if-form u j k (Json-F.Int z) e h f = absurd (cc)
+merged_if-form u j k (Json-F.Text s) e h f = absurd (cc)
+merged_if-form u j k Json-F.Opaque e h f = absurd (cc)
+
+updated-form : (u j k : Json) (x : Json-F Json Member) → out-Json j ≡ x → updated_in u j x ≡ Ok k → has_form u ≡ true → has_form j ≡ true → has_form k ≡ true
+updated-form u j k (Json-F.List js) is e h f =
+    ap has_form (sym (Ok_inj _ _ e)) ∙ list_form _ ∙ items_form-append js (u ∷ []) (sym (list_form js) ∙ ap has_form (is_list j js is) ∙ f) (both (has_form u) true h refl)
+updated-form u j k (Json-F.Object ms) is e h f = merged_if-form u j k (out-Json u) e h f
+updated-form u j k Json-F.Null is e h f = absurd (cc)
+updated-form u j k (Json-F.Flag b) is e h f = absurd (cc)
+updated-form u j k (Json-F.Int z) is e h f = absurd (cc)
+updated-form u j k (Json-F.Text s) is e h f = absurd (cc)
+updated-form u j k Json-F.Opaque is e h f = absurd (cc)
+
+module _ (u : Json) (form : has_form u ≡ true) where
+  abbrev Forms : List Token → Type 0
+  Forms p = (j k : Json) → changed (updated u) no_target p j ≡ Ok k → has_form j ≡ true → has_form k ≡ true
+
+  at_made : (p : List Token) → Forms p → (j k : Json) (i : ℕ) (c : Json) → slice_get (children j) i ≡ Some c → (r : Result Json ℕ) → changed (updated u) no_target p c ≡ r
+      → (r >>= (λ d. Ok (set_child j i d))) ≡ Ok k → has_form j ≡ true → has_form k ≡ true
+  at_made p forms j k i c here (Err rule) is f h = absurd (cc)
+  at_made p forms j k i c here (Ok d) is f h =
+      ap has_form (sym (Ok_inj _ _ f)) ∙ form_in j (out-Json j) i d refl h (forms c d is (child_form j (out-Json j) i c refl here h))
+
+  at_child_of : (p : List Token) → Forms p → (j k : Json) (i : ℕ) (o : Option Json) → slice_get (children j) i ≡ o
+      → changed_value (changed (updated u) no_target p) no_target j i o ≡ Ok k → has_form j ≡ true → has_form k ≡ true
+  at_child_of p forms j k i None here f h = absurd (cc)
+  at_child_of p forms j k i (Some c) here f h = at_made p forms j k i c here (changed (updated u) no_target p c) refl f h
+
+  at_token : (p : List Token) → Forms p → (j k : Json) (o : Option ℕ) → changed_child (changed (updated u) no_target p) no_target j o ≡ Ok k → has_form j ≡ true → has_form k ≡ true
+  at_token p forms j k None f h = absurd (cc)
+  at_token p forms j k (Some i) f h = at_child_of p forms j k i (slice_get (children j) i) refl f h
+
+  pub changed_form : (p : List Token) → Forms p
+  changed_form [] j k e h = updated-form u j k (out-Json j) refl e form h
+  changed_form (t ∷ p) j k e h = at_token p (changed_form p) j k (child_of t j) e h

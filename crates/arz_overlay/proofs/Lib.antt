@@ -3,4 +3,5 @@ pub mod FirstTargets
 pub mod Depths
 pub mod Kept
 pub mod PlacesOnce
+pub mod Within
 pub mod Overlays

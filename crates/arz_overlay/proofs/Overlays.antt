@@ -1,7 +1,8 @@
 -- What an action comes to, and what the actions in order come to.
 use Rattle.std.proofs.Common.{◌≡◌, ◌≢◌, ℕ, suc, ◌≤◌, List, [], ◌∷◌, Bool, true, Option, Some, None, Result, Ok, Err, refl, sym, ap, ◌∙◌, subst, arith}
-use Rattle.std.specs.Prelude.{IfErr}
+use Rattle.std.specs.Prelude.{IfErr, codes}
 use Rattle.arz_json.specs.Answer.{Fails, Gives}
+use Rattle.arz_json.specs.Tree.{has_form, IsWithin}
 use Rattle.arz_json.specs.declared.tree.Json.{Json}
 use Rattle.arz_json.specs.declared.tree.Refusal.{Refusal}
 use Rattle.arz_rx.specs.Patterns.{PatternsView, Rose}
@@ -13,9 +14,11 @@ use Rattle.arz_overlay.specs.declared.fault.OverlayFault.{OverlayFault}
 use Rattle.arz_overlay.specs.declared.fault.OverlayFault.TheVariants as fault
 use Rattle.arz_overlay.specs.declared.working.Work.{Work}
 use Rattle.arz_overlay.specs.Applied.{refusal_in, from_rule, Says, Applies, told_at, tree_of_work}
-use Rattle.arz_overlay.specs.Documents.{action_place}
-use Rattle.arz_overlay.specs.Overlaid.{after_action, done_after}
+use Rattle.arz_overlay.specs.Documents.{Document, actions_in, action_place}
+use Rattle.arz_overlay.specs.Overlaid.{Patterned, after_action, done_after, overlaid}
 use Rattle.arz_overlay.specs.Steps.{done_at, over_limit}
+use Rattle.arz_overlay.proofs.FirstTargets.{items_form_at}
+use Rattle.arz_overlay.proofs.Within.{overlaid_from-within}
 use Rattle.arz_changes.specs.Removal.{Places}
 
 -- ---- faults
@@ -115,3 +118,10 @@ says_at_end (Some m) j f = let is : Ok j ≡ m = cc in sym is
 pub follows_itself : (m : Option (Result Json Refusal)) → Follows m m
 follows_itself None = tt
 follows_itself (Some m) = refl
+
+-- ---- what is left nests no deeper than the limit
+
+-- a tree in form that nests at most 127 deep gives only such trees, by an overlay in form
+pub overlaid-within : (told : Patterned) (document : Document) (root j : Json) → IsWithin 127 root → has_form document.tree ≡ true → overlaid told document root ≡ Some (Ok j) → IsWithin 127 j
+overlaid-within told document root j w form e =
+    overlaid_from-within told document.label 0 (actions_in document.tree) (items_form_at (codes "actions") document.tree form) root j e w
