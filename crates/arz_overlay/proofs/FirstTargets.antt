@@ -1,13 +1,12 @@
 -- The first target that is no query, and its place.
-use Rattle.std.proofs.Common.{◌≡◌, ℕ, suc, ◌+◌, ◌<◌, List, [], ◌∷◌, ◌++◌, map, length, take, drop, get_or, Bool, true, false, cond, Option, Some, None, option_map, Result, Ok, Err, refl, sym, ap, ◌∙◌, add-one, arith}
+use Rattle.std.proofs.Common.{◌≡◌, ℕ, suc, ◌+◌, ◌<◌, List, [], ◌∷◌, ◌++◌, map, length, drop, get_or, Bool, true, false, cond, Option, Some, None, option_map, Ok, Err, refl, sym, ap, ◌∙◌, add-one, arith}
 use Rattle.std.specs.Prelude.{codes, unwrap_or, option_and_then}
 use Rattle.std.specs.Cmp.{nat_cmp_is}
 use Rattle.std.specs.declared.cmp.Ordering.TheVariants.{Less}
-use Rattle.std.specs.Ordering.{nat_cmp, is_gt, ordering_then}
+use Rattle.std.specs.Ordering.{is_gt, ordering_then}
 use Rattle.arz_json.specs.Look.{list_in, member_in, items_at}
 use Rattle.arz_json.specs.Tree.{has_form, all_true}
 use Rattle.arz_json.specs.declared.tree.Json.{Json}
-use Rattle.arz_json.specs.declared.tree.Refusal.{Refusal}
 use Rattle.arz_json.specs.declared.place.Token.{Token}
 use Rattle.arz_json.specs.declared.place.Token.TheVariants.{Name, Index}
 use Rattle.arz_rules.specs.Phases.{failure_or, told_or, refusal}

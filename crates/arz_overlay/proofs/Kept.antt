@@ -11,7 +11,7 @@ use Rattle.arz_json.specs.Put.{children, set_child}
 use Rattle.arz_json.specs.Tree.{has_form, is_below_first}
 use Rattle.arz_json.specs.declared.tree.Json.{Json, out-Json, the_lemmas}
 use Rattle.arz_json.specs.declared.tree.Json.TheOpen.{Json-F}
-use Rattle.arz_json.specs.declared.tree.Json.TheVariants.{Null, Flag, Int, Text, List as ListOf, Object, Opaque}
+use Rattle.arz_json.specs.declared.tree.Json.TheVariants.{Null, Flag, Int, Text, Opaque}
 use Rattle.arz_json.specs.declared.tree.Member.{Member}
 use Rattle.arz_json.specs.declared.place.Token.{Token}
 use Rattle.arz_json.specs.declared.place.Token.TheVariants.{Name, Index}

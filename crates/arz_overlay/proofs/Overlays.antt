@@ -1,40 +1,36 @@
 -- What an action comes to, and what the actions in order come to.
-use Rattle.std.proofs.Common.{◌≡◌, ◌≢◌, ℕ, suc, ◌≤◌, List, [], ◌∷◌, Bool, true, Option, Some, None, Result, Ok, Err, refl, sym, ap, ◌∙◌, subst, arith}
-use Rattle.std.specs.Prelude.{IfErr, codes}
+use Rattle.std.proofs.Common.{◌≡◌, ◌≢◌, ℕ, zero, suc, ◌+◌, ◌<◌, ◌≤◌, List, [], ◌∷◌, map, length, drop, get_or, add-one, true, Option, Some, None, Result, Ok, Err, refl, sym, ap, ◌∙◌, subst, arith}
+use Rattle.std.specs.Prelude.{IfErr, IsErrAnd, codes}
 use Rattle.arz_json.specs.Answer.{Fails, Gives}
-use Rattle.arz_json.specs.Tree.{has_form, IsWithin}
+use Rattle.arz_json.specs.Tree.{has_form, all_true, IsWithin}
 use Rattle.arz_json.specs.declared.tree.Json.{Json}
 use Rattle.arz_json.specs.declared.tree.Refusal.{Refusal}
 use Rattle.arz_rx.specs.Patterns.{PatternsView, Rose}
-use Rattle.arz_rules.specs.declared.phases.RuleFault.{RuleFault}
-use Rattle.arz_rules.specs.declared.phases.RuleFault.TheVariants as rule_fault
-use Rattle.arz_rules.specs.Phases.{cause, refusal}
+use Rattle.arz_rules.specs.Phases.{refusal}
 use Rattle.arz_path.specs.Outcome.{Outcome, given, wide, untold, Covers}
+use Rattle.arz_path.specs.Results.{Fails as Unselected}
+use Rattle.arz_path.specs.declared.fault.SelectFault.{SelectFault}
+use Rattle.arz_path.specs.declared.fault.SelectFault.TheVariants as select
 use Rattle.arz_overlay.specs.declared.fault.OverlayFault.{OverlayFault}
 use Rattle.arz_overlay.specs.declared.fault.OverlayFault.TheVariants as fault
 use Rattle.arz_overlay.specs.declared.working.Work.{Work}
-use Rattle.arz_overlay.specs.Applied.{refusal_in, from_rule, Says, Applies, told_at, tree_of_work}
+use Rattle.arz_overlay.specs.Applied.{refusal_in, Says, Applies, told_at, tree_of_work}
 use Rattle.arz_overlay.specs.Documents.{Document, actions_in, action_place}
-use Rattle.arz_overlay.specs.Overlaid.{Patterned, after_action, done_after, overlaid}
+use Rattle.arz_overlay.specs.Overlaid.{Patterned, after_action, done, done_after, overlaid, overlaid_from}
 use Rattle.arz_overlay.specs.Steps.{done_at, over_limit}
 use Rattle.arz_overlay.proofs.FirstTargets.{items_form_at}
 use Rattle.arz_overlay.proofs.Within.{overlaid_from-within}
 use Rattle.arz_changes.specs.Removal.{Places}
+use Rattle.arz_changes.proofs.Lists.{drop_at, left, right}
 
 -- ---- faults
 
-pub refusal_in-from_rule : (f : RuleFault) → refusal_in (from_rule f) ≡ cause f
-refusal_in-from_rule (rule_fault.Refused r) = refl
-refusal_in-from_rule rule_fault.Memory = refl
+-- what a fault of the selection says
+pub told_wide : {Y : Type 0} (f : SelectFault) (o : Outcome Y) (old new : PatternsView) → f ≡ select.TooWide → Unselected f o old new → Covers o wide
+told_wide f o old new is h = subst (λ (x : SelectFault). Unselected x o old new) is h
 
-pub from_rule-no_pattern : (f : RuleFault) → from_rule f ≢ fault.Pattern
-from_rule-no_pattern (rule_fault.Refused r) e = cc
-from_rule-no_pattern rule_fault.Memory e = cc
-
--- whatever the call would have given
-pub fails_alike : {A B : Type 0} (o : Option Refusal) (r : Refusal) → (let m : Result A Refusal = Err r in Fails o m) → (let m : Result B Refusal = Err r in Fails o m)
-fails_alike None r h = tt
-fails_alike (Some x) r h = let is : r ≡ x = cc in ap (λ y. Err y) is
+pub told_pattern : {Y : Type 0} (f : SelectFault) (o : Outcome Y) (old new : PatternsView) → f ≡ select.Pattern → Unselected f o old new → Rose old.too_big new.too_big
+told_pattern f o old new is h = subst (λ (x : SelectFault). Unselected x o old new) is h
 
 -- ---- one action
 
@@ -106,18 +102,41 @@ refused_on (Some m) label k next (Some (Ok i)) x s f = absurd (cc)
 -- an action was not done
 pub fails_on : (m : Option (Result Json Refusal)) (label : List ℕ) (k : ℕ) (next : Rest) (d : Option (Result Json ℕ)) (e : OverlayFault) (first old new : PatternsView)
     → (let r : Result Work OverlayFault = Err e in Applies tree_of_work r (after_action label k alone d) old new) → Follows m (after_action label k next d) → first.too_big ≤ old.too_big
-    → (let r : Result Json OverlayFault = Err e in Applies (λ j. j) r m first new)
+    → (let r : Result Work OverlayFault = Err e in Applies tree_of_work r m first new)
 fails_on m label k next d (fault.Refused x) first old new a f h = refused_on m label k next d x a f
 fails_on m label k next d fault.Pattern first old new a f h = omega (arith, a, h)
 fails_on m label k next d fault.Memory first old new a f h = tt
 
-pub says_at_end : (m : Option (Result Json Refusal)) (j : Json) → Follows m (alone j) → Says m (Ok j)
-says_at_end None j f = tt
-says_at_end (Some m) j f = let is : Ok j ≡ m = cc in sym is
+-- one more action was done, by what was told before it
+pub step_follows : (told now : Patterned) (label : List ℕ) (k : ℕ) (actions : List Json) (action : Json) (m : Option (Result Json Refusal)) (j w : Json) → now ≡ told → k < length actions → action ≡ get_or actions k action
+    → Says (after_action label k alone (done now action j)) (Ok w) → Follows m (overlaid_from told label k (drop k actions) j) → Follows m (overlaid_from told label (k + 1) (drop (k + 1) actions) w)
+step_follows told now label k actions action m j w same less is says follows =
+    let rest = drop (k + 1) actions in
+    let said = subst (λ (t : Patterned). Says (after_action label k alone (done t action j)) (Ok w)) same says in
+    let whole = subst (λ (l : List Json). Follows m (overlaid_from told label k l j)) (drop_at actions k action less is) follows in
+    subst (λ (n : ℕ). Follows m (overlaid_from told label n rest w)) (sym (add-one k)) (follows_on m label k (overlaid_from told label (suc k) rest) (done told action j) w said whole)
 
-pub follows_itself : (m : Option (Result Json Refusal)) → Follows m m
-follows_itself None = tt
-follows_itself (Some m) = refl
+-- one more action was not done
+pub step_fails : (told : Patterned) (label : List ℕ) (k : ℕ) (actions : List Json) (action : Json) (m : Option (Result Json Refusal)) (j : Json) (e : OverlayFault) (first old new : PatternsView)
+    → old.told ≡ told → first.too_big ≤ old.too_big → k < length actions → action ≡ get_or actions k action
+    → (let r : Result Work OverlayFault = Err e in Applies tree_of_work r (after_action label k alone (done old.told action j)) old new) → Follows m (overlaid_from told label k (drop k actions) j)
+    → (let r : Result Work OverlayFault = Err e in Applies tree_of_work r m first new)
+step_fails told label k actions action m j e first old new same count less is applies follows =
+    let failed = subst (λ (t : Patterned). (let r : Result Work OverlayFault = Err e in Applies tree_of_work r (after_action label k alone (done t action j)) old new)) same applies in
+    let whole = subst (λ (l : List Json). Follows m (overlaid_from told label k l j)) (drop_at actions k action less is) follows in
+    fails_on m label k (overlaid_from told label (suc k) (drop (k + 1) actions)) (done told action j) e first old new failed whole count
+
+-- the call that was not done gives that
+pub exit : (r : Result Work OverlayFault) (e : OverlayFault) (m : Option (Result Json Refusal)) (old new : PatternsView) → IsErrAnd r (λ x. x ≡ e)
+    → (let f : Result Work OverlayFault = Err e in Applies tree_of_work f m old new) → Applies tree_of_work r m old new
+exit (Ok w) e m old new is a = absurd is
+exit (Err x) e m old new is a = subst (λ (z : OverlayFault). (let f : Result Work OverlayFault = Err z in Applies tree_of_work f m old new)) (sym is) a
+
+-- an action, by its number, is in form
+pub form_at : (js : List Json) (i : ℕ) (j : Json) → all_true (map has_form js) ≡ true → i < length js → j ≡ get_or js i j → has_form j ≡ true
+form_at [] i j h less is = absurd (omega arith)
+form_at (x ∷ xs) zero j h less is = ap has_form is ∙ left _ _ h
+form_at (x ∷ xs) (suc i) j h less is = form_at xs i j (right (has_form x) _ h) (omega arith) is
 
 -- ---- what is left nests no deeper than the limit
 

@@ -1,5 +1,5 @@
 -- Places told apart by bytes, and places each once.
-use Rattle.std.proofs.Common.{◌≡◌, ℕ, ◌+◌, ◌<◌, ◌==◌, List, [], ◌∷◌, ◌++◌, map, length, take, drop, get_or, add-one, arith, Bool, true, false, ◌&&◌, ◌||◌, cond, refl, sym, ap, ap₂, ◌∙◌, rules, append_assoc, Some, pos}
+use Rattle.std.proofs.Common.{◌≡◌, ℕ, ◌+◌, ◌<◌, List, [], ◌∷◌, ◌++◌, map, length, take, drop, get_or, add-one, arith, Bool, true, false, ◌||◌, cond, refl, sym, ap, ap₂, ◌∙◌, rules, append_assoc, Some, pos}
 use Rattle.std.specs.Str.{bytes_eq}
 use Rattle.std.proofs.lemmas.Bool.{eqb-true}
 use Rattle.std.proofs.lemmas.Bool.Decides.{Decides-eqb}
@@ -7,17 +7,16 @@ use Rattle.std.proofs.lemmas.List.{get_or-map, length-map, map-append}
 use Rattle.std.proofs.Math.Seq.{take-suc}
 use Rattle.std.proofs.lemmas.Slice.Eq.{bytes_eq-Decides}
 use Rattle.arz_json.specs.Look.{text_in, int_in}
-use Rattle.arz_json.specs.declared.tree.Json.{Json, the_lemmas}
+use Rattle.arz_json.specs.declared.tree.Json.{the_lemmas}
 use Rattle.arz_json.specs.declared.tree.Json.TheVariants.{Int, Text}
 use Rattle.arz_json.specs.declared.place.Place.{Place}
 use Rattle.arz_json.specs.declared.place.Token.{Token}
 use Rattle.arz_json.specs.declared.place.Token.TheVariants.{Name, Index}
 use Rattle.arz_wire.specs.Spelling.{spelling, counted, number}
 use Rattle.arz_wire.proofs.Once.{one_spelling}
-use Rattle.arz_overlay.specs.Applied.{token_tree, key_of, has_key}
+use Rattle.arz_overlay.specs.Applied.{token_tree, key_of}
 use Rattle.arz_overlay.specs.Steps.{same_place, is_among, once_after}
 use Rattle.arz_changes.specs.Removal.{Places, same_token}
-use Rattle.arz_overlay.specs.declared.once.KeySet.{KeySet}
 use Rattle.arz_changes.proofs.Forms.{both}
 use Rattle.arz_changes.proofs.Lists.{drop_at, left, right, Some_inj}
 use Rattle.arz_changes.specs.Groups.{place_tokens, places_seen}

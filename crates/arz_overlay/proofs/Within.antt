@@ -1,5 +1,5 @@
 -- A tree in form that nests at most 127 deep gives only such trees.
-use Rattle.std.proofs.Common.{◌≡◌, ℕ, suc, ◌≤◌, List, [], ◌∷◌, map, Bool, true, false, ◌||◌, cond, Option, Some, None, Result, Ok, Err, refl, subst}
+use Rattle.std.proofs.Common.{◌≡◌, ℕ, suc, List, [], ◌∷◌, map, Bool, true, false, ◌||◌, cond, Option, Some, None, Result, Ok, Err, refl, subst}
 use Rattle.std.specs.Prelude.{codes, nat_lt}
 use Rattle.std.proofs.lemmas.Bool.{ltb-false}
 use Rattle.arz_json.specs.Answer.{◌>>=◌}

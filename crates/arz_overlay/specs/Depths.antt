@@ -1,5 +1,5 @@
 -- For private clauses: how deep an update reaches, seen from the root of the tree that it is merged into.
-use Rattle.std.specs.Prelude.{ℕ, suc, ◌+◌, List, length, Option, Some, None}
+use Rattle.std.specs.Prelude.{ℕ, ◌+◌, List, length, Option, Some, None}
 use Rattle.arz_json.specs.Tree.{depth}
 use Rattle.arz_json.specs.declared.tree.Json.{Json, out-Json}
 use Rattle.arz_json.specs.declared.tree.Json.TheOpen.{Json-F}

@@ -1,5 +1,5 @@
 -- Overlay documents (Overlay 1.0.0, section 4.4): their parts, and the rules that one keeps by itself.
-use Rattle.std.specs.Prelude.{◌≡◌, ◌↔◌, ℕ, List, [], ◌∷◌, Bool, true, false, codes, if◌then◌else◌, Option, Some, None, option_map, unwrap_or, Result, Ok, Err}
+use Rattle.std.specs.Prelude.{◌≡◌, ◌↔◌, ℕ, List, [], ◌∷◌, Bool, false, codes, if◌then◌else◌, Option, Some, None, unwrap_or, Result, Ok, Err}
 use Rattle.std.specs.Option.{is_some}
 use Rattle.arz_json.specs.Look.{text_at, items_at, member_in}
 use Rattle.arz_json.specs.declared.tree.Json.{Json, out-Json}

@@ -1,7 +1,8 @@
 // Applying an overlay.
-ghost use Rattle.std.specs.Prelude.{◌≡◌, ◌≢◌, ◌≤◌, max, true, Some, Ok, Err, IfOk, IfErr, Result};
+ghost use Rattle.std.specs.Prelude.{◌≡◌, ◌≢◌, ◌≤◌, max, map, true, Some, Ok, Err, IfOk, IfErr, Result};
+ghost use Rattle.std.specs.List.{list_all};
 ghost use Rattle.arz_json.specs.Answer.{Fails, Gives};
-ghost use Rattle.arz_json.specs.Tree.{has_form, depth, IsWithin, IsWellFormed};
+ghost use Rattle.arz_json.specs.Tree.{has_form, all_true, depth, IsWithin, IsWellFormed};
 ghost use Rattle.arz_json.specs.declared.tree.Json.{Json as Tree};
 ghost use Rattle.arz_json.specs.declared.tree.Refusal.{Refusal};
 ghost use Rattle.arz_path.specs.Results.{Asked};
@@ -9,7 +10,7 @@ ghost use Rattle.arz_rules.specs.Phases.{refusal};
 ghost use Rattle.arz_overlay.specs.Applied.{Applies, Keeps, refusal_in, told_at, tree_of_work};
 ghost use Rattle.arz_overlay.specs.Documents.{action_place, target_of, is_query};
 ghost use Rattle.arz_changes.specs.Groups.{places_seen};
-ghost use Rattle.arz_overlay.specs.Overlaid.{overlaid, done, after_action};
+ghost use Rattle.arz_overlay.specs.Overlaid.{overlaid, overlaid_from, done, after_action};
 ghost use Rattle.arz_overlay.specs.Steps.{done_at as done_at_places};
 
 use crate::document::Overlay;
@@ -44,12 +45,41 @@ pub fn apply<P: Patterns>(
     ensures well_formed { IfOk result IsWellFormed }
     ensures nests { IsWithin 127 root.now → IfOk result (IsWithin 127) }
 {
-    let mut work = started(alloc, root)?;
-    let queries = overlay.queries();
-    for (at, action) in overlay.actions().iter().enumerate() {
-        work = acted(alloc, overlay.label(), at, action, &queries[at], work, rx)?;
-    }
+    let work = started(alloc, root)?;
+    let work = all_acted(
+        alloc,
+        overlay.label(),
+        overlay.actions(),
+        overlay.queries(),
+        work,
+        rx,
+    )?;
     Ok(work.tree)
+}
+
+// What the actions in order make of the tree.
+fn all_acted<P: Patterns>(
+    alloc: Global,
+    label: &str,
+    actions: &[Json],
+    queries: &[Query],
+    work: Work,
+    rx: &mut P,
+) -> Result<Work, OverlayFault>
+    requires keeps { Keeps work }
+    requires form { all_true (map has_form actions.now) ≡ true }
+    requires targets { queries.now ≡ map target_of actions.now }
+    requires spelled { list_all is_query queries.now ≡ true }
+    ensures applies { Applies tree_of_work result (overlaid_from (P.patterns rx.old).told label.now 0 actions.now work.tree) (P.patterns rx.old) (P.patterns rx.new) }
+    ensures asked { Asked (P.patterns rx.old) (P.patterns rx.new) }
+    ensures keeps { IfOk result Keeps }
+    ensures nests { IfOk result (λ w. depth w.tree ≤ max 127 (depth work.tree)) }
+{
+    let mut work = work;
+    for (at, action) in actions.iter().enumerate() {
+        work = acted(alloc, label, at, action, &queries[at], work, rx)?;
+    }
+    Ok(work)
 }
 
 // What one action makes of the tree.

@@ -39,10 +39,7 @@ impl<'k> KeySet<'k> {
 
 /// The places without those that stand before, in order. It takes time in the tokens of the places, times the
 /// logarithm of their number.
-pub(crate) fn each_once<'p>(
-    alloc: Global,
-    places: &'p [Place],
-) -> Result<Vec<Way<'p>>, AllocError>
+pub(crate) fn each_once<'p>(alloc: Global, places: &'p [Place]) -> Result<Vec<Way<'p>>, AllocError>
     ensures { IfOk result (λ ways. ways_seen ways.items ≡ once (places_seen places.now)) }
 {
     let keys = keys(alloc, places)?;
@@ -56,11 +53,7 @@ pub(crate) fn each_once<'p>(
     Ok(ways)
 }
 
-fn push_unless<'p>(
-    is_there: bool,
-    way: Way<'p>,
-    ways: &mut Vec<Way<'p>>,
-) -> Result<(), AllocError>
+fn push_unless<'p>(is_there: bool, way: Way<'p>, ways: &mut Vec<Way<'p>>) -> Result<(), AllocError>
     ensures { OnOk result (ways_seen ways.new.items ≡ ways_seen ways.old.items ++ (if is_there then [] else tokens_of way.entry ∷ [])) }
 {
     if !is_there {
@@ -70,10 +63,7 @@ fn push_unless<'p>(
 }
 
 /// The places as they are.
-pub(crate) fn all_ways<'p>(
-    alloc: Global,
-    places: &'p [Place],
-) -> Result<Vec<Way<'p>>, AllocError>
+pub(crate) fn all_ways<'p>(alloc: Global, places: &'p [Place]) -> Result<Vec<Way<'p>>, AllocError>
     ensures { IfOk result (λ ways. ways_seen ways.items ≡ places_seen places.now) }
 {
     let mut ways = Vec::with_capacity(alloc, places.len())?;

@@ -138,12 +138,7 @@ fn target_rule_of(tree: &Json, ways: &[Way]) -> Option<u8>
 }
 
 // The tree with an update merged at one place after another.
-fn merged_at_each(
-    alloc: Global,
-    update: &Json,
-    ways: &[Way],
-    work: Work,
-) -> Result<Work, StepFault>
+fn merged_at_each(alloc: Global, update: &Json, ways: &[Way], work: Work) -> Result<Work, StepFault>
     requires keeps { Keeps work }
     requires update { has_form update.now ≡ true }
     ensures gives { Gives tree_of_work rule_in result (merged_each update.now (ways_seen ways.now) work.tree) }
@@ -159,12 +154,7 @@ fn merged_at_each(
 
 // The tree with an update merged at one place, within the limits. How deep it nests then is told by the place
 // and the update alone, where it was shallow before.
-fn merged_at(
-    alloc: Global,
-    update: &Json,
-    place: &[Token],
-    work: Work,
-) -> Result<Work, StepFault>
+fn merged_at(alloc: Global, update: &Json, place: &[Token], work: Work) -> Result<Work, StepFault>
     requires keeps { Keeps work }
     requires update { has_form update.now ≡ true }
     ensures gives { Gives tree_of_work rule_in result (merged_once update.now place.now work.tree) }

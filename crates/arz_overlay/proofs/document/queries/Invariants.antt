@@ -1,6 +1,5 @@
-use Rattle.std.proofs.Common.{◌≡◌, ◌++◌, map, take, drop, true}
+use Rattle.std.proofs.Common.{◌≡◌, ◌++◌, map, drop, true}
 use Rattle.std.specs.List.{list_all}
-use Rattle.arz_rules.specs.Place.{least}
 use Rattle.arz_rules.specs.Sites.{in_items}
 use Rattle.arz_overlay.specs.Documents.{target_of, is_query, bad_target}
 use Rattle.arz_overlay.proofs.document.queries.Given as goal

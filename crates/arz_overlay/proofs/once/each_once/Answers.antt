@@ -1,8 +1,8 @@
-use Rattle.std.proofs.Common.{◌≡◌, ◌+◌, ◌<◌, ◌++◌, ◌∷◌, ◌||◌, [], List, ℕ, cond, take, drop, length, sym, ap, ap₂, ◌∙◌, arith}
+use Rattle.std.proofs.Common.{◌+◌, ◌<◌, ◌++◌, ◌∷◌, ◌||◌, [], cond, take, drop, length, sym, ap, ap₂, ◌∙◌}
 use Rattle.std.specs.Str.{bytes_eq}
 use Rattle.arz_overlay.specs.Applied.{key_of, has_key}
 use Rattle.arz_changes.specs.Groups.{places_seen, ways_seen}
-use Rattle.arz_overlay.specs.Steps.{is_among, once_after}
+use Rattle.arz_overlay.specs.Steps.{once_after}
 use Rattle.arz_overlay.proofs.PlacesOnce.{keyed, keyed_tells, keyed_more, one_more, key_at, so_far, the_others}
 use Rattle.arz_overlay.proofs.once.each_once.Goals as goal
 

@@ -1,4 +1,4 @@
-use Rattle.std.proofs.Common.{◌≡◌, ◌≤◌, ◌∙◌, sym}
+use Rattle.std.proofs.Common.{◌∙◌, sym}
 use Rattle.std.proofs.lemmas.Bool.{ltb-false}
 use Rattle.arz_overlay.specs.Depths.{reach}
 use Rattle.arz_overlay.proofs.Depths.{deepened}

@@ -1,6 +1,5 @@
-use Rattle.std.proofs.Common.{◌≡◌, ◌≤◌, max, sym, ap, ◌∙◌, subst, arith}
+use Rattle.std.proofs.Common.{◌≤◌, max, sym, ap, ◌∙◌, subst, arith}
 use Rattle.arz_json.specs.Tree.{has_form, depth}
-use Rattle.arz_changes.specs.Groups.{ways_seen}
 use Rattle.arz_overlay.proofs.Depths.{without-depth}
 use Rattle.arz_overlay.proofs.Kept.{without_form}
 use Rattle.arz_overlay.proofs.working.removed.Goals as goal
