@@ -1,4 +1,4 @@
-//! Descriptions of workflows (Arazzo 1.0.1): the rules that a description must keep by itself, and the least of them
+//! Descriptions of workflows (Arazzo 1.0.1): reading one, the rules that it must keep by itself, and the least of them
 //! that it fails.
 //!
 //! | number | fails where |
@@ -27,6 +27,7 @@ pub mod laws;
 mod limits;
 mod names;
 mod order;
+mod reading;
 mod references;
 mod repeats;
 mod requests;
@@ -34,4 +35,6 @@ mod sites;
 mod texts;
 mod values;
 
+pub use arz_description::Description;
 pub use order::{Failure, check, first_refusal};
+pub use reading::read;

@@ -1,0 +1,99 @@
+// The tree of a bundle.
+ghost use Rattle.std.specs.Prelude.{◌≡◌, ◌++◌, map, pos, IfOk};
+ghost use Rattle.arz_start.specs.StartTree.{named, delay_word as word_of_delay, server_of, documents_first, settings_last, start_tree};
+
+use crate::documents::documents;
+use arz_flow::{Bundle, NamedText};
+use arz_json::{Json, Many, Member, Members, Text, copy};
+use std::alloc::{AllocError, Global};
+
+/// The tree of a bundle: an object of its documents, and of what its setup says of the run. It copies the documents.
+pub fn to_tree(alloc: Global, bundle: &Bundle) -> Result<Json, AllocError>
+    ensures { IfOk result (λ tree. tree ≡ start_tree bundle.now) }
+{
+    let mut members = Vec::with_capacity(alloc, 8)?;
+    add_first(alloc, bundle, &mut members)?;
+    add_last(alloc, bundle, &mut members)?;
+    Ok(Json::Object(Many::from_std(members)))
+}
+
+fn add_first(alloc: Global, bundle: &Bundle, members: &mut Vec<Member>) -> Result<(), AllocError>
+    ensures { OnOk result (members.new.items ≡ members.old.items ++ documents_first bundle.now) }
+{
+    let delay = text(alloc, delay_word(bundle.skip_delay))?;
+    add(alloc, "arazzo", copy(alloc, &bundle.arazzo)?, members)?;
+    add(alloc, "delay", delay, members)?;
+    add(alloc, "inputs", inputs(alloc, &bundle.inputs)?, members)?;
+    add(
+        alloc,
+        "journalLimit",
+        Json::Int(i128::from(bundle.journal_limit)),
+        members,
+    )
+}
+
+fn add_last(alloc: Global, bundle: &Bundle, members: &mut Vec<Member>) -> Result<(), AllocError>
+    ensures { OnOk result (members.new.items ≡ members.old.items ++ settings_last bundle.now) }
+{
+    let servers = servers(alloc, bundle.servers.as_slice())?;
+    let documents = documents(alloc, bundle.sources.as_slice())?;
+    add(
+        alloc,
+        "maxAttempts",
+        Json::Int(i128::from(bundle.max_attempts)),
+        members,
+    )?;
+    add(alloc, "servers", Json::Object(servers), members)?;
+    add(alloc, "sources", Json::Object(documents), members)?;
+    add(
+        alloc,
+        "workflow",
+        text(alloc, bundle.workflow.as_str())?,
+        members,
+    )
+}
+
+fn add(alloc: Global, name: &str, value: Json, members: &mut Vec<Member>) -> Result<(), AllocError>
+    ensures { OnOk result (members.new.items ≡ members.old.items ++ named name.now value ∷ []) }
+{
+    let name = Text::from_str(alloc, name)?;
+    members.push(Member { name, value })?;
+    Ok(())
+}
+
+fn text(alloc: Global, text: &str) -> Result<Json, AllocError>
+    ensures { IfOk result (λ j. j ≡ Text text.now) }
+{
+    Ok(Json::Text(Text::from_str(alloc, text)?))
+}
+
+fn delay_word(skips: bool) -> &'static str
+    ensures { result.now ≡ word_of_delay skips }
+{
+    if skips { "skip" } else { "stop" }
+}
+
+fn inputs(alloc: Global, members: &Members) -> Result<Json, AllocError>
+    ensures { IfOk result (λ j. j ≡ Object members.now) }
+{
+    let mut copies = Vec::with_capacity(alloc, members.len())?;
+    for member in members.as_slice() {
+        let name = member.name.copy(alloc)?;
+        let value = copy(alloc, &member.value)?;
+        copies.push(Member { name, value })?;
+    }
+    Ok(Json::Object(Many::from_std(copies)))
+}
+
+fn servers(alloc: Global, servers: &[NamedText]) -> Result<Members, AllocError>
+    ensures { IfOk result (λ ms. ms ≡ map server_of servers.now) }
+{
+    let mut members = Vec::with_capacity(alloc, servers.len())?;
+    for server in servers {
+        members.push(Member {
+            name: server.name.copy(alloc)?,
+            value: text(alloc, server.text.as_str())?,
+        })?;
+    }
+    Ok(Many::from_std(members))
+}
