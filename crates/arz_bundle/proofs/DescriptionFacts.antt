@@ -23,9 +23,10 @@ use Rattle.arz_rules.specs.Sets.{is_among, texts_at, bad_text, unless}
 use Rattle.arz_rules.specs.Shapes.{Row, must, may}
 use Rattle.arz_rules.specs.Sites.{each_item, at, in_items, in_member, found, if_there, all_items, items}
 use Rattle.arz_components.specs.Described.{Components, component}
-use Rattle.arz_doc.specs.Described.{only, workflows}
+use Rattle.arz_sites.specs.Sites.{only, workflows}
 use Rattle.arz_doc.specs.Order.{wrong_shapes, shape_rules, naming_rules as own_naming_rules, value_rules, sending_rules, name_rules, content_rules, rules_with, rules}
-use Rattle.arz_doc.specs.Rules.{placeless_uses, bad_version, wrong_names, bad_headers, bad_media_types, over_limits, long_lists, large_numbers, longer}
+use Rattle.arz_names.specs.Names.{placeless_uses, bad_version, wrong_names}
+use Rattle.arz_contents.specs.Contents.{bad_headers, bad_media_types, over_limits, long_lists, large_numbers, longer}
 use Rattle.arz_doc.proofs.Orders.{or_later, first-append}
 use Rattle.arz_flow.specs.Documents.{workflow_named, steps_in}
 use Rattle.arz_flow.specs.Valid.{steps_limit}

@@ -1,6 +1,3 @@
-pub mod Expressions
-pub mod Parts
-pub mod TextLevels
-pub mod Orders
 pub mod Numbered
 pub mod OneTest
+pub mod Orders

@@ -17,7 +17,7 @@ use Rattle.arz_rules.proofs.Places.{least-append, least-under}
 use Rattle.arz_graph.specs.Reaches.{Graph, targets, IsCyclic, Reaches, Leads}
 use Rattle.arz_graph.proofs.Tests.{cycles_told}
 use Rattle.arz_doc.specs.Cycles.{numbered, number_in, number_from, named_by, dependencies_in, dependencies, DependsOnItself, TellsCycles, circular_below}
-use Rattle.arz_doc.proofs.Parts.{rest_of}
+use Rattle.arz_sites.proofs.Parts.{rest_of}
 
 pub number_step : (old new : BTreeMap (Bor (List ℕ)) ℕ) (ws : List Json) (k : ℕ) (w : Json) (id : Option (List ℕ)) → id ≡ text_named (codes "workflowId") w
     → ((q : List ℕ) → number_in new q ≡ cond (is_text id q) (Some (k - 1)) (number_in old q))

@@ -1,5 +1,2 @@
-pub mod Texts
-pub mod Described
-pub mod Rules
-pub mod Order
 pub mod Cycles
+pub mod Order

@@ -9,7 +9,8 @@ use Rattle.arz_rules.specs.Sites.{Check}
 use Rattle.arz_doc.specs.declared.order.Failure.{Failure}
 use Rattle.arz_components.specs.Described.{Components, component}
 use Rattle.arz_doc.specs.Cycles.{circular}
-use Rattle.arz_doc.specs.Rules.{placeless_uses, bad_version, wrong_names, duplicates, mixtures, lost_references, xpaths, type_objects, fractions, bad_expressions, bad_headers, bad_media_types, over_limits}
+use Rattle.arz_names.specs.Names.{placeless_uses, bad_version, wrong_names, duplicates, mixtures, lost_references}
+use Rattle.arz_contents.specs.Contents.{xpaths, type_objects, fractions, bad_expressions, bad_headers, bad_media_types, over_limits}
 
 -- a member that is missing or has another kind, and a use of a parameter that lacks its place
 abbrev pub wrong_shapes : Components → Check

@@ -17,23 +17,10 @@
 //! | 24 | a list is too long, or a number too large |
 #![tactic(auto)]
 
-mod checks;
-mod criteria;
 mod cycles;
-mod duplicates;
-mod exclusive;
-mod guards;
 pub mod laws;
-mod limits;
-mod names;
 mod order;
 mod reading;
-mod references;
-mod repeats;
-mod requests;
-mod sites;
-mod texts;
-mod values;
 
 pub use arz_description::Description;
 pub use order::{Failure, check, first_refusal};

@@ -8,17 +8,17 @@ ghost use Rattle.arz_components.specs.Indexes.{finds};
 ghost use Rattle.arz_doc.specs.Cycles.{TellsCycles, tells};
 ghost use Rattle.arz_doc.specs.Order.{wrong_shapes, shape_rules, naming_rules, value_rules, sending_rules, name_rules, content_rules, rules_with, rules as rules_of, seen_failure};
 
-use crate::criteria::{first_type_object, first_xpath};
 use crate::cycles::{Cycles, first_circular};
-use crate::duplicates::first_duplicate;
-use crate::exclusive::first_mixture;
-use crate::limits::first_over_limit;
-use crate::names::{first_bad_version, first_wrong_name};
-use crate::references::{first_lost_reference, first_placeless_use};
-use crate::requests::{first_bad_header, first_bad_media_type};
-use crate::values::{first_bad_expression, first_fraction};
 use arz_components::Components;
+use arz_contents::{
+    first_bad_expression, first_bad_header, first_bad_media_type, first_fraction, first_over_limit,
+    first_type_object, first_xpath,
+};
 use arz_json::{Json, Place};
+use arz_names::{
+    first_bad_version, first_duplicate, first_lost_reference, first_mixture, first_placeless_use,
+    first_wrong_name,
+};
 use arz_rules::{Kind, RuleFault, first_miss, lesser, refuse};
 use std::alloc::{AllocError, Global};
 

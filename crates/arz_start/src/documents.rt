@@ -1,5 +1,5 @@
 // Source documents by their names.
-ghost use Rattle.std.specs.Prelude.{◌≡◌, map, IfOk};
+ghost use Rattle.std.specs.Prelude.{◌≡◌, [], map, IfOk};
 ghost use Rattle.arz_start.specs.StartTree.{documents as documents_of, entered, seen_entry, seen_member};
 
 use arz_json::{Json, Many, Member, Members, Named, Text, copy};

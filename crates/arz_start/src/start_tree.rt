@@ -1,5 +1,6 @@
 // The tree of a bundle.
-ghost use Rattle.std.specs.Prelude.{◌≡◌, ◌++◌, map, pos, IfOk};
+ghost use Rattle.std.specs.Prelude.{◌≡◌, ◌++◌, ◌∷◌, [], map, IfOk, OnOk};
+ghost use Rattle.arz_json.specs.declared.Json.TheVariants.{Text as Words, Object as Pairs};
 ghost use Rattle.arz_start.specs.StartTree.{named, delay_word as word_of_delay, server_of, documents_first, settings_last, start_tree};
 
 use crate::documents::documents;
@@ -20,7 +21,7 @@ pub fn to_tree(alloc: Global, bundle: &Bundle) -> Result<Json, AllocError>
 fn add_first(alloc: Global, bundle: &Bundle, members: &mut Vec<Member>) -> Result<(), AllocError>
     ensures { OnOk result (members.new.items ≡ members.old.items ++ documents_first bundle.now) }
 {
-    let delay = text(alloc, delay_word(bundle.skip_delay))?;
+    let delay = text_tree(alloc, delay_word(bundle.skip_delay))?;
     add(alloc, "arazzo", copy(alloc, &bundle.arazzo)?, members)?;
     add(alloc, "delay", delay, members)?;
     add(alloc, "inputs", inputs(alloc, &bundle.inputs)?, members)?;
@@ -48,7 +49,7 @@ fn add_last(alloc: Global, bundle: &Bundle, members: &mut Vec<Member>) -> Result
     add(
         alloc,
         "workflow",
-        text(alloc, bundle.workflow.as_str())?,
+        text_tree(alloc, bundle.workflow.as_str())?,
         members,
     )
 }
@@ -61,8 +62,8 @@ fn add(alloc: Global, name: &str, value: Json, members: &mut Vec<Member>) -> Res
     Ok(())
 }
 
-fn text(alloc: Global, text: &str) -> Result<Json, AllocError>
-    ensures { IfOk result (λ j. j ≡ Text text.now) }
+fn text_tree(alloc: Global, text: &str) -> Result<Json, AllocError>
+    ensures { IfOk result (λ j. j ≡ Words text.now) }
 {
     Ok(Json::Text(Text::from_str(alloc, text)?))
 }
@@ -74,7 +75,7 @@ fn delay_word(skips: bool) -> &'static str
 }
 
 fn inputs(alloc: Global, members: &Members) -> Result<Json, AllocError>
-    ensures { IfOk result (λ j. j ≡ Object members.now) }
+    ensures { IfOk result (λ j. j ≡ Pairs members.now) }
 {
     let mut copies = Vec::with_capacity(alloc, members.len())?;
     for member in members.as_slice() {
@@ -92,7 +93,7 @@ fn servers(alloc: Global, servers: &[NamedText]) -> Result<Members, AllocError>
     for server in servers {
         members.push(Member {
             name: server.name.copy(alloc)?,
-            value: text(alloc, server.text.as_str())?,
+            value: text_tree(alloc, server.text.as_str())?,
         })?;
     }
     Ok(Many::from_std(members))

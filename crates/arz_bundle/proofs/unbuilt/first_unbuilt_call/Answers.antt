@@ -1,7 +1,7 @@
 use Rattle.std.proofs.Common.{◌∷◌, ◌++◌, [], codes}
 use Rattle.arz_rules.specs.Sets.{bad_text}
 use Rattle.arz_rules.specs.Sites.{member, each_item, at}
-use Rattle.arz_doc.proofs.Parts.{joined}
+use Rattle.arz_sites.proofs.Parts.{joined}
 use Rattle.arz_bundle.specs.Unbuilt.{steps, is_plain_id, elsewhere}
 use Rattle.arz_bundle.proofs.unbuilt.first_unbuilt_call.Goals as goal
 

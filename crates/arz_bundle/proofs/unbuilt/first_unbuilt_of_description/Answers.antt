@@ -1,7 +1,7 @@
 use Rattle.std.proofs.Common.{ap, ◌∙◌}
 use Rattle.arz_rules.specs.Place.{lesser, tokens_in}
 use Rattle.arz_rules.specs.Sites.{at_each}
-use Rattle.arz_doc.proofs.Parts.{on_sites}
+use Rattle.arz_sites.proofs.Parts.{on_sites}
 use Rattle.arz_bundle.specs.Unbuilt.{everywhere, second_items, unbuilt_members, unbuilt_calls}
 use Rattle.arz_bundle.proofs.KindFacts.{three-least}
 use Rattle.arz_bundle.proofs.unbuilt.first_unbuilt_of_description.Goals as goal

@@ -1,6 +1,0 @@
-use Rattle.arz_doc.specs.Rules.{long_lists, large_numbers}
-use Rattle.arz_doc.proofs.Parts.{joined}
-use Rattle.arz_doc.proofs.limits.first_over_limit.Goals as goal
-
-pub returns : goal.returns
-returns c = joined (long_lists c.args.root.now) (large_numbers c.args.root.now) _ _ _ c.lesser.ensures c.in_ok-lists.ensures c.in_ok-numbers.ensures

@@ -1,8 +1,0 @@
-use Rattle.arz_rules.specs.Sets.{has}
-use Rattle.arz_doc.specs.Rules.{lost_workflows_by, lost_sources_by}
-use Rattle.arz_doc.proofs.Parts.{joined}
-use Rattle.arz_doc.proofs.references.first_lost_name.Goals as goal
-
-pub returns : goal.returns
-returns c =
-    joined (lost_workflows_by (has c.args.workflows.now) c.args.root.now) (lost_sources_by (has c.args.sources.now) c.args.root.now) _ _ _ c.lesser.ensures c.in_ok-of_workflows.ensures c.in_ok-of_sources.ensures
