@@ -33,24 +33,32 @@ seen_member entry = named entry.0 entry.1
 abbrev pub documents : List Named → List Member
 documents sources = map seen_member (entered [] sources)
 
-abbrev pub documents_first : Bundle → List Member
-documents_first b =
+abbrev pub description_first : Bundle → List Member
+description_first b =
     named (codes "arazzo") b.arazzo
     ∷ named (codes "delay") (Text (delay_word b.skip_delay))
     ∷ named (codes "inputs") (Object b.inputs)
-    ∷ named (codes "journalLimit") (Int (pos b.journal_limit))
     ∷ []
 
-abbrev pub settings_last : Bundle → List Member
-settings_last b =
-    named (codes "maxAttempts") (Int (pos b.max_attempts))
-    ∷ named (codes "servers") (Object (map server_of b.servers))
-    ∷ named (codes "sources") (Object (documents b.sources))
+abbrev pub limits_next : Bundle → List Member
+limits_next b =
+    named (codes "journalLimit") (Int (pos b.journal_limit))
+    ∷ named (codes "maxAttempts") (Int (pos b.max_attempts))
+    ∷ []
+
+abbrev pub servers_next : Bundle → List Member
+servers_next b =
+    named (codes "servers") (Object (map server_of b.servers))
+    ∷ []
+
+abbrev pub sources_last : Bundle → List Member
+sources_last b =
+    named (codes "sources") (Object (documents b.sources))
     ∷ named (codes "workflow") (Text b.workflow)
     ∷ []
 
 abbrev pub start_tree : Bundle → Json
-start_tree b = Object (documents_first b ++ settings_last b)
+start_tree b = Object (description_first b ++ limits_next b ++ servers_next b ++ sources_last b)
 
 -- ---- for private clauses
 

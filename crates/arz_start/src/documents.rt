@@ -28,7 +28,7 @@ fn by_name<'a>(
 }
 
 fn copied(alloc: Global, found: BTreeMap<&str, &Json>) -> Result<Members, AllocError>
-    ensures { IfOk result (λ ms. ms ≡ map seen_member (map seen_entry found.entries)) }
+    ensures { IfOk result (λ ms. ms ≡ map seen_member (map seen_entry found.entry.entries)) }
 {
     let mut members = Vec::with_capacity(alloc, found.len())?;
     for (name, root) in found {

@@ -1,7 +1,7 @@
 // The tree of a bundle.
-ghost use Rattle.std.specs.Prelude.{◌≡◌, ◌++◌, ◌∷◌, [], map, IfOk, OnOk};
-ghost use Rattle.arz_json.specs.declared.Json.TheVariants.{Text as Words, Object as Pairs};
-ghost use Rattle.arz_start.specs.StartTree.{named, delay_word as word_of_delay, server_of, documents_first, settings_last, start_tree};
+ghost use Rattle.std.specs.Prelude.{◌≡◌, ◌++◌, ◌∷◌, [], map, pos, IfOk, OnOk};
+ghost use Rattle.arz_json.specs.declared.Json.TheVariants.{Int, Text as Words, Object as Pairs};
+ghost use Rattle.arz_start.specs.StartTree.{named, delay_word as word_of_delay, server_of, description_first, limits_next, servers_next, sources_last, start_tree};
 
 use crate::documents::documents;
 use arz_flow::{Bundle, NamedText};
@@ -14,44 +14,48 @@ pub fn to_tree(alloc: Global, bundle: &Bundle) -> Result<Json, AllocError>
 {
     let mut members = Vec::with_capacity(alloc, 8)?;
     add_first(alloc, bundle, &mut members)?;
+    add_limits(alloc, bundle, &mut members)?;
+    add_servers(alloc, bundle, &mut members)?;
     add_last(alloc, bundle, &mut members)?;
     Ok(Json::Object(Many::from_std(members)))
 }
 
 fn add_first(alloc: Global, bundle: &Bundle, members: &mut Vec<Member>) -> Result<(), AllocError>
-    ensures { OnOk result (members.new.items ≡ members.old.items ++ documents_first bundle.now) }
+    ensures { OnOk result (members.new.items ≡ members.old.items ++ description_first bundle.now) }
 {
     let delay = text_tree(alloc, delay_word(bundle.skip_delay))?;
     add(alloc, "arazzo", copy(alloc, &bundle.arazzo)?, members)?;
     add(alloc, "delay", delay, members)?;
-    add(alloc, "inputs", inputs(alloc, &bundle.inputs)?, members)?;
-    add(
-        alloc,
-        "journalLimit",
-        Json::Int(i128::from(bundle.journal_limit)),
-        members,
-    )
+    add(alloc, "inputs", inputs(alloc, &bundle.inputs)?, members)
 }
 
-fn add_last(alloc: Global, bundle: &Bundle, members: &mut Vec<Member>) -> Result<(), AllocError>
-    ensures { OnOk result (members.new.items ≡ members.old.items ++ settings_last bundle.now) }
+fn add_limits(alloc: Global, bundle: &Bundle, members: &mut Vec<Member>) -> Result<(), AllocError>
+    ensures { OnOk result (members.new.items ≡ members.old.items ++ limits_next bundle.now) }
 {
-    let servers = servers(alloc, bundle.servers.as_slice())?;
-    let documents = documents(alloc, bundle.sources.as_slice())?;
+    add(alloc, "journalLimit", number(bundle.journal_limit), members)?;
     add(
         alloc,
         "maxAttempts",
-        Json::Int(i128::from(bundle.max_attempts)),
+        number(u64::from(bundle.max_attempts)),
         members,
     )?;
-    add(alloc, "servers", Json::Object(servers), members)?;
+    Ok(())
+}
+
+fn add_servers(alloc: Global, bundle: &Bundle, members: &mut Vec<Member>) -> Result<(), AllocError>
+    ensures { OnOk result (members.new.items ≡ members.old.items ++ servers_next bundle.now) }
+{
+    let servers = servers(alloc, bundle.servers.as_slice())?;
+    add(alloc, "servers", Json::Object(servers), members)
+}
+
+fn add_last(alloc: Global, bundle: &Bundle, members: &mut Vec<Member>) -> Result<(), AllocError>
+    ensures { OnOk result (members.new.items ≡ members.old.items ++ sources_last bundle.now) }
+{
+    let documents = documents(alloc, bundle.sources.as_slice())?;
+    let workflow = text_tree(alloc, bundle.workflow.as_str())?;
     add(alloc, "sources", Json::Object(documents), members)?;
-    add(
-        alloc,
-        "workflow",
-        text_tree(alloc, bundle.workflow.as_str())?,
-        members,
-    )
+    add(alloc, "workflow", workflow, members)
 }
 
 fn add(alloc: Global, name: &str, value: Json, members: &mut Vec<Member>) -> Result<(), AllocError>
@@ -60,6 +64,12 @@ fn add(alloc: Global, name: &str, value: Json, members: &mut Vec<Member>) -> Res
     let name = Text::from_str(alloc, name)?;
     members.push(Member { name, value })?;
     Ok(())
+}
+
+fn number(number: u64) -> Json
+    ensures { result ≡ Int (pos number) }
+{
+    Json::Int(i128::from(number))
 }
 
 fn text_tree(alloc: Global, text: &str) -> Result<Json, AllocError>
