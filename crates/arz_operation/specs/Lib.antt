@@ -1,0 +1,4 @@
+pub mod References
+pub mod Parameters
+pub mod Servers
+pub mod Named
