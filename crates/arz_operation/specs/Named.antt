@@ -1,5 +1,6 @@
 -- The operations of a document, and which of them a name means (OpenAPI 3.1.0, sections 4.8.8 to 4.8.14).
 use Rattle.std.specs.Prelude.{ℕ, ◌==◌, ◌&&◌, ◌||◌, List, [], ◌∷◌, ◌++◌, map, codes, Bool, true, false, Option, Some, None, option_map, option_and_then, find, Result, Ok, Err, if◌then◌else◌}
+use Rattle.std.specs.Option.{is_some}
 use Rattle.std.specs.List.{filter_map, flat_map}
 use Rattle.std.specs.Str.{bytes_eq}
 use Rattle.arz_json.specs.declared.tree.Json.{Json}
@@ -9,7 +10,7 @@ use Rattle.arz_json.specs.declared.tree.Location.TheVariants.{Path, Query, Heade
 use Rattle.arz_json.specs.Look.{text_in, member_in, items_at, members_at}
 use Rattle.arz_json.specs.Pointer.{decoded, member_named}
 use Rattle.arz_json.specs.Texts.{split_once}
-use Rattle.arz_operation.specs.References.{meant}
+use Rattle.arz_operation.specs.References.{reference_of, meant}
 use Rattle.arz_operation.specs.Parameters.{described}
 use Rattle.arz_operation.specs.Servers.{server_url}
 use Rattle.arz_operation.specs.declared.references.Lost.{Lost}
@@ -26,18 +27,21 @@ abbrev pub is_among : List (List ℕ) → List ℕ → Bool
 is_among [] s = false
 is_among (t ∷ ts) s = bytes_eq t s || is_among ts s
 
--- an operation where it stands: its path, the path item, its method, and the operation itself
+-- an operation where it stands: its path, whether the path refers to its item, the path item, the method, and the
+-- operation itself
 pub record Standing : Type 0 where
   pub path : List ℕ
+  pub is_referred : Bool
   pub item : Json
   pub method : List ℕ
   pub operation : Json
 
-abbrev pub standing : (path : List ℕ) → (item : Json) → (method : List ℕ) → Json → Standing
-standing path item method operation = record { path = path; item = item; method = method; operation = operation }
+abbrev pub standing : (path : List ℕ) → (is_referred : Bool) → (item : Json) → (method : List ℕ) → Json → Standing
+standing path is_referred item method operation =
+    record { path = path; is_referred = is_referred; item = item; method = method; operation = operation }
 
-abbrev pub under_method : (path : List ℕ) → (item : Json) → (method : List ℕ) → Option Standing
-under_method path item method = option_map (standing path item method) (member_in method item)
+abbrev pub under_method : (path : List ℕ) → (is_referred : Bool) → (item : Json) → (method : List ℕ) → Option Standing
+under_method path is_referred item method = option_map (standing path is_referred item method) (member_in method item)
 
 -- what was meant, if anything was
 abbrev pub if_meant : {A : Type 0} → Result A Lost → Option A
@@ -53,12 +57,15 @@ abbrev pub is_path : List ℕ → Bool
 is_path [] = false
 is_path (b ∷ bs) = b == 47
 
-abbrev pub all_under : (path : List ℕ) → Option Json → List Standing
-all_under path None = []
-all_under path (Some item) = filter_map (under_method path item) methods
+abbrev pub all_under : (path : List ℕ) → (is_referred : Bool) → Option Json → List Standing
+all_under path is_referred None = []
+all_under path is_referred (Some item) = filter_map (under_method path is_referred item) methods
+
+abbrev pub is_reference : Json → Bool
+is_reference j = is_some (reference_of j)
 
 abbrev pub in_member : Json → Member → List Standing
-in_member root m = if is_path m.name then all_under m.name (item_of root m.value) else []
+in_member root m = if is_path m.name then all_under m.name (is_reference m.value) (item_of root m.value) else []
 
 -- the operations of a document, by their paths and methods in byte order
 abbrev pub operations : Json → List Standing
@@ -81,7 +88,7 @@ abbrev pub by_id : Json → List ℕ → Option Standing
 by_id root id = find (has_id id) (operations root)
 
 abbrev pub at_item : (path method : List ℕ) → Json → (item : Json) → Option Standing
-at_item path method root item = option_and_then (λ meant. under_method path meant method) (item_of root item)
+at_item path method root item = option_and_then (λ meant. under_method path (is_reference item) meant method) (item_of root item)
 
 -- the operation with this path and method
 abbrev pub at_path : Json → (path method : List ℕ) → Option Standing

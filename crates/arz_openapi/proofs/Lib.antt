@@ -1,0 +1,4 @@
+pub mod Decoding
+pub mod Placed
+pub mod Steps
+pub mod Texts

@@ -1,0 +1,5 @@
+pub mod Rules
+pub mod Parts
+pub mod Sites
+pub mod Names
+pub mod Spots
