@@ -16,7 +16,7 @@ use Rattle.arz_wire.specs.Texts.{has_texts, texts_step, names_are_texts}
 use Rattle.arz_json.specs.Answer.{◌>>=◌}
 use Rattle.arz_wire.specs.Reading.{Front, number_front, number_if, number_at, largest_number, text_if, text_at, is_above, name_if, name_at, items_at, members_at, scalar_at, tree_at, counted_bytes, first_tree}
 use Rattle.arz_wire.proofs.Numbers.{reach}
-use Rattle.arz_wire.proofs.Layers.{spelling_null, spelling_false, spelling_true, spelling_int, spelling_text, spelling_list, spelling_object, spelling_opaque}
+use Rattle.arz_wire.proofs.Layers.{spelling_null, spelling_false, spelling_true, spelling_int, spelling_text, spelling_list, spelling_object, spelling_opaque, texts_list}
 use Rattle.arz_wire.proofs.Once.{spelled}
 use Rattle.arz_wire.proofs.Rows.{tree_scalar, tree_list, tree_object, list_counted, object_counted}
 use Rattle.arz_wire.proofs.Found.{int_form}
@@ -125,9 +125,6 @@ items_again total levels (j ∷ js) rest h f t d l =
     items_again total levels js rest h.1 (right (has_form j) (all_true (map has_form js)) f) (right (has_texts j) (all_true (map has_texts js)) t) (omega (arith, d)) (omega (arith, l, len, length-append (spelling j) more)) in
     ap (items_at (tree_at total levels) (suc (length js))) regrouped ∙ rw (first, others) refl
 
-list_texts : (js : List Json) → has_texts (ListOf js) ≡ all_true (map has_texts js)
-list_texts js = folded-List Bool texts_step js
-
 list_again : (js : List Json) → Each IsAgain js → IsAgain (ListOf js)
 list_again js h total zero rest f t d l = absurd (omega (arith, folded-List ℕ depth_step js, d))
 list_again js h total (suc levels) rest f t d l =
@@ -140,7 +137,7 @@ list_again js h total (suc levels) rest f t d l =
     ap (tree_at total (suc levels)) whole ∙ tree_list total levels (number (length js) ++ (spellings js ++ rest))
     ∙ ap (λ r. r >>= λ x. found_tree (ListOf x.0) x.1)
     (list_counted inside total (number (length js) ++ (spellings js ++ rest)) (length js) (spellings js ++ rest) (number_again total largest_number (length js) (spellings js ++ rest) (omega (arith, count)) count)
-    ∙ items_again total levels js rest h (sym (folded-List Bool form_step js) ∙ f) (sym (list_texts js) ∙ t) (omega (arith, folded-List ℕ depth_step js, d)) less)
+    ∙ items_again total levels js rest h (sym (folded-List Bool form_step js) ∙ f) (sym (texts_list js) ∙ t) (omega (arith, folded-List ℕ depth_step js, d)) less)
 
 -- ---- members
 

@@ -1,10 +1,13 @@
 -- The spelling of a tree, a level at a time.
-use Rattle.std.proofs.Common.{◌≡◌, ℕ, ℤ, pos, negsuc, true, false, List, [], ◌∷◌, ◌++◌, length, map, refl, sym, ap, ap₂, ◌∙◌, append_assoc, rules}
+use Rattle.std.proofs.Common.{◌≡◌, ℕ, ℤ, pos, negsuc, Bool, ◌&&◌, true, false, List, [], ◌∷◌, ◌++◌, length, map, refl, sym, ap, ap₂, ◌∙◌, append_assoc, rules}
 use Rattle.std.proofs.lemmas.List.{length-map}
 use Rattle.arz_json.specs.declared.tree.Json.{Json, the_lemmas}
 use Rattle.arz_json.specs.declared.tree.Json.TheVariants.{Null, Flag, Int, Text, List as ListOf, Object, Opaque}
 use Rattle.arz_json.specs.declared.tree.Member.{Member}
 use Rattle.arz_json.proofs.Layers.{folded-List, folded-Object, pair_of}
+use Rattle.arz_json.specs.Tree.{all_true, values_of}
+use Rattle.std.specs.Str.{is_utf8}
+use Rattle.arz_wire.specs.Texts.{names_are_texts, texts_step, has_texts, has_text}
 use Rattle.arz_wire.specs.Spelling.{number, integer, counted, joined, joined_members, spelling_step, spelling, spellings, member_spellings}
 
 joined-map : (js : List Json) → joined (map spelling js) ≡ spellings js
@@ -45,3 +48,22 @@ spelling_int (negsuc n) = search (rules, the_lemmas)
 
 pub spelling_opaque : spelling Opaque ≡ 8 ∷ []
 spelling_opaque = search (rules, the_lemmas)
+
+-- ---- texts
+
+pub texts_list : (js : List Json) → has_texts (ListOf js) ≡ all_true (map has_texts js)
+texts_list js = folded-List Bool texts_step js
+
+both : (a b c d : Bool) → ((a && b) && (c && d)) ≡ ((a && c) && (b && d))
+both true true c d = refl
+both true false true d = refl
+both true false false d = refl
+both false b c d = refl
+
+-- names and values one after the other, or member by member
+by_member : (ms : List Member) → (names_are_texts (map (pair_of Bool texts_step) ms) && all_true (values_of (map (pair_of Bool texts_step) ms))) ≡ all_true (map has_text ms)
+by_member [] = refl
+by_member (m ∷ ms) = both (is_utf8 m.name) (names_are_texts (map (pair_of Bool texts_step) ms)) (has_texts m.value) (all_true (values_of (map (pair_of Bool texts_step) ms))) ∙ ap (λ b. (is_utf8 m.name && has_texts m.value) && b) (by_member ms)
+
+pub texts_object : (ms : List Member) → has_texts (Object ms) ≡ all_true (map has_text ms)
+texts_object ms = folded-Object Bool texts_step ms ∙ by_member ms

@@ -1,12 +1,12 @@
 -- Items and members that are read one after the other, as a loop does.
-use Rattle.std.proofs.Common.{◌≡◌, ℕ, zero, suc, lt-ltb, ne_eqb, ◌-◌, ◌+◌, ◌≤◌, ◌<◌, List, [], ◌∷◌, ◌++◌, Some, None, Result, Ok, Err, refl, sym, ap, ◌∙◌, append_assoc, append-nil, arith}
+use Rattle.std.proofs.Common.{◌≡◌, ℕ, zero, suc, lt-ltb, ne_eqb, ◌-◌, ◌+◌, ◌≤◌, ◌<◌, List, [], ◌∷◌, ◌++◌, Some, None, Ok, Err, refl, sym, ap, ◌∙◌, append_assoc, append-nil, arith}
 use Rattle.std.specs.Prelude.{unwrap_or}
 use Rattle.std.proofs.lemmas.Bool.{le-ltb}
 use Rattle.arz_json.specs.declared.tree.Json.TheVariants.{List as ListOf, Object}
 use Rattle.arz_json.specs.declared.tree.Json.{Json}
 use Rattle.arz_json.specs.declared.tree.Member.{Member}
 use Rattle.arz_wire.specs.declared.fault.WireFault.{WireFault}
-use Rattle.arz_wire.specs.declared.fault.WireFault.TheVariants.{Short, BadTag, NotCanonical, TooDeep, Memory}
+use Rattle.arz_wire.specs.declared.fault.WireFault.TheVariants.{Short, BadTag, TooDeep}
 use Rattle.arz_json.specs.Answer.{◌>>=◌}
 use Rattle.arz_wire.specs.Reading.{Front, Reader, place, number_at, largest_number, name_at, items_at, members_at, list_at, object_at, scalar_at, tree_at}
 use Rattle.arz_wire.specs.Names.{last_name}

@@ -5,6 +5,7 @@ use Rattle.arz_json.specs.Tree.{member_step, all_true, values_of}
 use Rattle.arz_json.specs.declared.tree.Json.{Json}
 use Rattle.arz_json.specs.declared.tree.Json.TheOpen.{Json-F}
 use Rattle.arz_json.specs.declared.tree.Json.TheFolds.{fold-Json}
+use Rattle.arz_json.specs.declared.tree.Member.{Member}
 
 abbrev pub names_are_texts : {A : Type 0} → List (List ℕ × A) → Bool
 names_are_texts [] = true
@@ -21,3 +22,7 @@ texts_step Json-F.Opaque = true
 
 abbrev pub has_texts : Json → Bool
 has_texts = fold-Json Bool (List ℕ × Bool) texts_step member_step
+
+-- ---- for private clauses: the name of a member, and the texts of its value
+abbrev pub has_text : Member → Bool
+has_text m = is_utf8 m.name && has_texts m.value
