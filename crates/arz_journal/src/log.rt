@@ -267,7 +267,7 @@ impl Log {
         ensures disk { result ≡ Err JournalFault.Disk → Rose (W.told world.old).disk_faults (W.told world.new).disk_faults }
         ensures full { result ≡ Err JournalFault.Full ↔ ((self.old.is_spent ≡ false) × (limit < self.old.place + 5 + length (payload mark rest.now) + 1)) }
         ensures spent { result ≡ Err JournalFault.Spent ↔ (self.old.is_spent ≡ true) }
-        ensures no_memory { result ≢ Err JournalFault.Memory }
+        ensures others { OnErr result ((result ≡ Err JournalFault.Disk) ⊎ (result ≡ Err JournalFault.Full) ⊎ (result ≡ Err JournalFault.Spent)) }
         ensures untouched { ((result ≡ Err JournalFault.Full) ⊎ (result ≡ Err JournalFault.Spent)) → (world.new ≡ world.old) × (self.new ≡ self.old) }
 
         // The log goes on behind the entry, or is spent.
