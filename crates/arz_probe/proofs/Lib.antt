@@ -1,2 +1,3 @@
 pub mod Trees
 mod Listings
+mod Overlaying

@@ -2,3 +2,4 @@ pub mod Reports
 pub mod Paths
 pub mod Selections
 pub mod Journals
+pub mod Overlays

@@ -1,15 +1,18 @@
 //! The libraries from the command line, for conformance runs and benchmarks: the wire form of JSON
-//! trees by `wire FILE` and `unwire FILE`, queries of JSONPath by `path FILE QUERY`, the mapping of
-//! I-Regexps by `iregexp [--whole] TEXT`, and the entries of a journal by `journal FILE`.
+//! trees by `wire FILE` and `unwire FILE`, queries of JSONPath by `path FILE QUERY`, overlays by
+//! `overlay OVERLAY FILE`, the mapping of I-Regexps by `iregexp [--whole] TEXT`, and the entries of a
+//! journal by `journal FILE`.
 #![tactic(auto)]
 
 mod journals;
+mod overlays;
 mod paths;
 mod query_report;
 mod report;
 
 use arz_real::RegexPatterns;
 use journals::journal_report;
+use overlays::overlay_report;
 use query_report::{iregexp_report, path_report};
 use report::{Report, file_report, unwire_report, wire_report, words_report};
 use std::alloc::AllocError;
@@ -37,6 +40,9 @@ fn answered(rt: &HostRuntime) -> Result<Report, AllocError> {
         [mode, path] if mode.as_str() == "unwire" => unwired(rt, path.as_str()),
         [mode, path, query] if mode.as_str() == "path" => {
             selected(rt, path.as_str(), query.as_str())
+        }
+        [mode, overlay, path] if mode.as_str() == "overlay" => {
+            overlaid(rt, overlay.as_str(), path.as_str())
         }
         [mode, text] if mode.as_str() == "iregexp" => {
             iregexp_report(rt.alloc(), text.as_str(), false)
@@ -76,6 +82,22 @@ fn selected(rt: &HostRuntime, path: &str, query: &str) -> Result<Report, AllocEr
         Some(bytes) => path_report(rt.alloc(), bytes.as_slice(), query, &mut patterns),
         None => file_report(rt.alloc(), path),
     }
+}
+
+fn overlaid(rt: &HostRuntime, overlay: &str, path: &str) -> Result<Report, AllocError> {
+    let Some(document) = contents(rt, overlay)? else {
+        return file_report(rt.alloc(), overlay);
+    };
+    let Some(bytes) = contents(rt, path)? else {
+        return file_report(rt.alloc(), path);
+    };
+    let mut patterns = RegexPatterns::new(rt.alloc());
+    overlay_report(
+        rt.alloc(),
+        document.as_slice(),
+        bytes.as_slice(),
+        &mut patterns,
+    )
 }
 
 // The bytes of a file, or none where it can't be read.

@@ -97,7 +97,8 @@ fn fault_report(alloc: Global, fault: PathFault) -> Result<Report, AllocError>
     }
 }
 
-fn pattern_report(alloc: Global) -> Result<Report, AllocError>
+/// What is printed where a pattern is too big, and status 15.
+pub fn pattern_report(alloc: Global) -> Result<Report, AllocError>
     ensures { IfOk result (λ r. r ≡ pattern_form) }
 {
     let text = Bytes::from_std(Vec::from_slice(alloc, b"Pattern\n")?);
