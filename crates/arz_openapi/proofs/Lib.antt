@@ -2,3 +2,4 @@ pub mod Decoding
 pub mod Placed
 pub mod Steps
 pub mod Texts
+pub mod Indexed

@@ -3,3 +3,4 @@ pub mod Parts
 pub mod Sites
 pub mod Names
 pub mod Spots
+pub mod Indexes

@@ -32,7 +32,11 @@ fn found_site(alloc: Global, root: &Json, site: &Site) -> Result<Option<Operatio
 }
 
 /// The operation at a site, or none.
-fn found(alloc: Global, root: &Json, site: Option<Site>) -> Result<Option<Operation>, RuleFault>
+pub(crate) fn found(
+    alloc: Global,
+    root: &Json,
+    site: Option<Site>,
+) -> Result<Option<Operation>, RuleFault>
     ensures { Gives (λ o. o) cause result (found_at root.now (option_map seen site.entry)) }
 {
     match site {
@@ -88,13 +92,15 @@ fn is_one_of(words: &[&str], name: &str) -> bool
     false
 }
 
-fn is_named(path: &str, method: &str) -> bool
+/// Whether a path and a method may name an operation.
+pub(crate) fn is_named(path: &str, method: &str) -> bool
     ensures { result ≡ (begins_path path.now && is_among methods method.now) }
 {
     is_path(path) && is_method(method)
 }
 
-fn site_of_item<'a>(
+/// The operation under a method of a path's item.
+pub(crate) fn site_of_item<'a>(
     root: &'a Json,
     path: &'a str,
     method: &'a str,
@@ -133,7 +139,8 @@ fn below_paths(pointer: &str) -> Option<&str>
     pointer.strip_prefix("/paths/")
 }
 
-fn path_and_method(pointer: &str) -> Option<(&str, &str)>
+/// The token of the path, and the method, of a pointer `/paths/PATH/METHOD`.
+pub(crate) fn path_and_method(pointer: &str) -> Option<(&str, &str)>
     ensures { option_map (λ p. (p.0.now, p.1.now)) result ≡ option_and_then (split_at_first 47) (after (codes "/paths/") pointer.now) }
 {
     split_once(below_paths(pointer)?, '/')
@@ -160,7 +167,8 @@ fn text_of(alloc: Global, bytes: &[u8]) -> Result<Option<Text>, AllocError>
     }
 }
 
-fn decoded(alloc: Global, pointer: &str) -> Result<Option<Text>, AllocError>
+/// The text that a pointer decodes to, where it is one.
+pub(crate) fn decoded(alloc: Global, pointer: &str) -> Result<Option<Text>, AllocError>
     ensures { IfOk result (λ t. t ≡ percent_decoded pointer.now) }
 {
     let mut bytes = Vec::new(alloc);

@@ -15,6 +15,7 @@ mod document;
 mod finding;
 mod ids;
 mod joined;
+mod operations;
 mod parts;
 mod reading;
 mod sites;
@@ -22,3 +23,4 @@ mod tokens;
 
 pub use document::check;
 pub use finding::{find_id, find_path};
+pub use operations::Operations;
