@@ -1,5 +1,5 @@
 // The calls that cases name.
-use crate::{expressions, messages, outside, patterns, queries, requests, top, trees};
+use crate::{expressions, messages, outside, overlays, patterns, queries, requests, top, trees};
 use arz_calls::LibraryCall;
 use arz_cases::{Case, CaseFault, Outcome};
 use std::alloc::Global;
@@ -11,6 +11,7 @@ pub enum Call {
     Path,
     Count,
     Any,
+    Overlay,
     Compare,
     Found,
     Expression,
@@ -45,6 +46,7 @@ impl Call {
             "path" => Call::Path,
             "count" => Call::Count,
             "any" => Call::Any,
+            "overlay" => Call::Overlay,
             "compare" => Call::Compare,
             "found" => Call::Found,
             "expression" => Call::Expression,
@@ -84,6 +86,7 @@ impl Call {
             Call::Path => queries::path(alloc, case),
             Call::Count => queries::count(alloc, case),
             Call::Any => queries::any(alloc, case),
+            Call::Overlay => overlays::overlay(alloc, case),
             Call::Compare => queries::compare(alloc, case),
             Call::Found => queries::found(alloc, case),
             Call::Expression => expressions::expression(alloc, case),

@@ -6,6 +6,7 @@ mod call;
 mod expressions;
 mod messages;
 mod outside;
+mod overlays;
 mod paths;
 mod patterns;
 mod queries;

@@ -1,8 +1,6 @@
 // Overlays.
-use crate::case::Case;
-use crate::fault::CaseFault;
-use crate::outcome::{Outcome, text_of};
 use crate::patterns::patterns_of;
+use arz_cases::{Case, CaseFault, Outcome, text_of};
 use arz_overlay::{Overlay, OverlayFault, apply};
 use std::alloc::Global;
 
