@@ -83,7 +83,7 @@ is_text id (Some t) = bytes_eq t id
 abbrev pub has_id : List ℕ → Standing → Bool
 has_id id s = is_text id (id_of s)
 
--- the operation with this operationId; no two of a document have one
+-- the first operation with this operationId; an operationId must stand once in a document (section 4.8.10)
 abbrev pub by_id : Json → List ℕ → Option Standing
 by_id root id = find (has_id id) (operations root)
 
