@@ -4,6 +4,10 @@ pub mod FormPaths
 pub mod KindFacts
 pub mod LoadingLaws
 pub mod Noting
+pub mod Overlaying
+pub mod OverlaysTold
+pub mod Risen
 pub mod RuleFacts
 pub mod Stages
 pub mod ValidBundles
+pub mod Wholes

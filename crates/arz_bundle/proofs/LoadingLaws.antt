@@ -1,24 +1,29 @@
 -- Loading comes to something, and what is loaded is valid.
-use Rattle.std.proofs.Common.{◌≡◌, ◌≢◌, ◌⊎◌, inl, inr, ◌≤◌, ℕ, List, [], length, take, codes, Bool, true, false, Option, None, Some, Result, Ok, Err, All, refl, sym, ◌∙◌, subst, ◌+◌}
+use Rattle.std.proofs.Common.{◌≡◌, ◌≢◌, ◌⊎◌, inl, inr, ◌≤◌, ℕ, List, [], ◌∷◌, length, take, codes, Bool, true, false, Option, None, Some, Result, Ok, Err, All, refl, sym, ◌∙◌, subst, ◌+◌}
 use Rattle.std.proofs.lemmas.Bool.{cases_lt}
 use Rattle.std.proofs.lemmas.Str.{IsUtf8-from_is_utf8, is_utf8-from_IsUtf8}
 use Rattle.std.specs.Str.{IsUtf8, is_utf8}
 use Rattle.serde_json.specs.Data.{Data}
 use Rattle.serde_json.specs.Read.{read}
 use Rattle.arz_json.specs.Reading.{Reads, tree_of}
-use Rattle.arz_json.specs.Tree.{IsWithin}
+use Rattle.arz_json.specs.Tree.{IsWithin, has_form}
 use Rattle.arz_json.specs.declared.Json.{Json}
 use Rattle.arz_json.specs.declared.Refusal.{Refusal}
 use Rattle.arz_json.proofs.Forms.{IsWithin-Reads}
-use Rattle.arz_rules.specs.Phases.{refusal}
+use Rattle.arz_overlay.proofs.Overlays.{overlaid-within}
+use Rattle.arz_overlay.specs.Documents.{Document, document, rules as overlay_rules}
+use Rattle.arz_overlay.specs.Overlaid.{Patterned, overlaid}
+use Rattle.arz_rules.specs.Phases.{Failure, refusal, first_failure, told_or}
+use Rattle.arz_rx.specs.Patterns.{PatternsView}
 use Rattle.arz_world.specs.Outside.{FilesView, ReadsAs, Told}
 use Rattle.arz_flow.specs.declared.bundle.Bundle.{Bundle}
 use Rattle.arz_flow.specs.Valid.{IsValid}
 use Rattle.arz_bundle.specs.declared.fault.LoadFault.{LoadFault}
-use Rattle.arz_bundle.specs.declared.fault.LoadFault.TheVariants.{File, Refused, Memory}
+use Rattle.arz_bundle.specs.declared.fault.LoadFault.TheVariants.{File, Refused, Pattern, Memory}
 use Rattle.arz_bundle.specs.Laws.{MissingFail, LoadsSome, GivesSome, LoadsValid, GivesStatuses}
-use Rattle.arz_bundle.specs.Loading.{file_limit, IsFile, NoFile, Tells, Judged, Reading, source_name, source_label, source_path, AfterSource, FromSource, AfterDescription, FromDescription, AfterSetup, AfterReplies}
+use Rattle.arz_bundle.specs.Loading.{file_limit, IsFile, NoFile, Tells, Judged, Reading, Taken, Applied, Overlaid, ReadingOverlaid, source_name, source_label, source_path, AfterSource, FromSource, AfterDescription, FromDescription, AfterSetup, AfterReplies}
 use Rattle.arz_doc.proofs.Numbered.{some_test}
+use Rattle.arz_bundle.specs.Overlays.{Listed, overlays_for, overlay_label}
 use Rattle.arz_bundle.specs.Phases.{setup_told, description_told, IsDescribed, unbuilt_told, source_told, replies_told}
 use Rattle.arz_bundle.specs.Replies.{HasStatus, replies_of}
 use Rattle.arz_bundle.specs.Setup.{description_path, bundle_of}
@@ -78,10 +83,10 @@ module _ {A : Type 0} where
   tells-some (Some r) Next some = (Err (Refused r), refl, refused-some r)
   tells-some None Next some = some
 
-module _ {A : Type 0} (label : List ℕ) (Next : Json → Result A LoadFault → Type 0) (some : (tree : Json) → IsSome (Next tree)) where
+module _ {A : Type 0} (label : List ℕ) (Next : Json → Result A LoadFault → Type 0) (some : (tree : Json) → IsWithin 127 tree → IsSome (Next tree)) where
   judged-by : (bytes : List ℕ) → Tree label bytes → IsSome (Judged label Next bytes)
   judged-by bytes (inl (tree, file)) =
-      let x = some tree in
+      let x = some tree (IsWithin-Reads bytes tree file.1) in
       (x.0, inl (tree, file, x.1), x.2)
   judged-by bytes (inr (r, none)) = (Err (Refused r), inr (r, none, refl), refused-some r)
 
@@ -97,36 +102,82 @@ module _ {A : Type 0} (label : List ℕ) (Next : Json → Result A LoadFault →
   reading-some : (before now : FilesView) (path : List ℕ) → MissingFail before now → IsSome (Reading before now path label Next)
   reading-some before now path missing = by-told before now path missing (before.told path) refl
 
-module _ (before now : FilesView) (missing : MissingFail before now) where
-  source-some : (setup description : Json) → IsSome (FromSource before now setup description)
-  source-some setup description =
-      reading-some (source_label description) (AfterSource setup description)
-      (λ source.
-      let bundle = bundle_of setup description source (source_name description) in
-      tells-some (source_told (source_label description) description source) (λ x. x ≡ Ok bundle) (Ok bundle, refl, ok-some bundle))
-      before now (source_path setup description) missing
+-- ---- overlays
 
-  described-some : (setup description : Json) → IsSome (AfterDescription before now setup description)
-  described-some setup description =
-      let test = some_test description in
-      let told = description_told test.0 setup description in
-      let some = tells-some told (Tells (unbuilt_told setup description) (FromSource before now setup description))
-      (tells-some (unbuilt_told setup description) (FromSource before now setup description) (source-some setup description)) in
-      (some.0, (told, (test.0, test.1, refl), some.1), some.2)
+-- an overlay keeps a tree within what is read
+abbrev pub KeepsWithin : Type 0
+KeepsWithin = (told : Patterned) (d : Document) (root j : Json) → has_form d.tree ≡ true → IsWithin 127 root → overlaid told d root ≡ Some (Ok j) → IsWithin 127 j
 
-  description-some : (setup : Json) → IsSome (FromDescription before now setup)
-  description-some setup =
-      reading-some (codes "arazzo") (AfterDescription before now setup) (described-some setup) before now (description_path setup) missing
+-- a document that is taken is the tree that was read
+taken : (label : List ℕ) (o : Option Failure) (a d : Document) → told_or label o (Ok a) ≡ Ok d → a ≡ d
+taken label None a d is = cc
+taken label (Some f) a d is = absurd (cc)
+
+taken-form : (label : List ℕ) (root : Json) (d : Document) → IsWithin 127 root → document label root ≡ Ok d → has_form d.tree ≡ true
+taken-form label root d within is =
+    subst (λ (t : Document). has_form t.tree ≡ true) (taken label (first_failure (overlay_rules root)) (record { tree = root; label = label }) d is) within.form
+
+taken-some : {A : Type 0} (r : Result Document Refusal) (Next : Document → Result A LoadFault → Type 0) → ((d : Document) → r ≡ Ok d → IsSome (Next d)) → IsSome (Taken r Next)
+taken-some (Ok d) Next some = some d refl
+taken-some (Err r) Next some = (Err (Refused r), refl, refused-some r)
+
+module _ (keeps : KeepsWithin) (old new : PatternsView) where
+  module _ {A : Type 0} (Next : Json → Result A LoadFault → Type 0) (some : (made : Json) → IsWithin 127 made → IsSome (Next made)) where
+    applied-some : (d : Document) (tree : Json) → has_form d.tree ≡ true → IsWithin 127 tree → (meant : Option (Result Json Refusal)) → overlaid old.told d tree ≡ meant → IsSome (Applied old new meant Next)
+    applied-some d tree form within None is = let x = some tree within in (x.0, inl (tree, tt, within, x.1), x.2)
+    applied-some d tree form within (Some (Ok j)) is =
+        let made-within = keeps old.told d tree j form within is in
+        let x = some j made-within in
+        (x.0, inl (j, refl, made-within, x.1), x.2)
+    applied-some d tree form within (Some (Err r)) is = (Err (Refused r), inr (inl (r, refl, refl)), refused-some r)
+
+  module _ (before now : FilesView) (missing : MissingFail before now) where
+    overlaid-some : {A : Type 0} (Next : Json → Result A LoadFault → Type 0) → ((made : Json) → IsWithin 127 made → IsSome (Next made))
+        → (os : List Listed) (tree : Json) → IsWithin 127 tree → IsSome (Overlaid before now old new os tree Next)
+    overlaid-some Next some [] tree within = some tree within
+    overlaid-some {A} Next some (o ∷ os) tree within =
+        let label = overlay_label o.index in
+        let Rest : Json → Result A LoadFault → Type 0 = λ made. Overlaid before now old new os made Next in
+        let Then : Document → Result A LoadFault → Type 0 = λ d. Applied old new (overlaid old.told d tree) Rest in
+        reading-some label (λ root. Taken (document label root) Then)
+        (λ root root-within. taken-some (document label root) Then
+        (λ d is. applied-some Rest (overlaid-some Next some os) d tree (taken-form label root d root-within is) within (overlaid old.told d tree) refl)) before now o.path missing
+
+    document-some : {A : Type 0} (path label : List ℕ) (os : List Listed) (Next : Json → Result A LoadFault → Type 0) → ((made : Json) → IsWithin 127 made → IsSome (Next made))
+        → IsSome (ReadingOverlaid before now old new path label os Next)
+    document-some path label os Next some = reading-some label (λ tree. Overlaid before now old new os tree Next) (overlaid-some Next some os) before now path missing
+
+    source-some : (setup description : Json) → IsSome (FromSource before now old new setup description)
+    source-some setup description =
+        document-some (source_path setup description) (source_label description) (overlays_for (Some (source_name description)) setup) (AfterSource setup description)
+        (λ source within.
+        let bundle = bundle_of setup description source (source_name description) in
+        tells-some (source_told (source_label description) description source) (λ x. x ≡ Ok bundle) (Ok bundle, refl, ok-some bundle))
+
+    described-some : (setup description : Json) → IsSome (AfterDescription before now old new setup description)
+    described-some setup description =
+        let test = some_test description in
+        let told = description_told test.0 setup description in
+        let Then = FromSource before now old new setup description in
+        let some = tells-some told (Tells (unbuilt_told setup description) Then) (tells-some (unbuilt_told setup description) Then (source-some setup description)) in
+        (some.0, (told, (test.0, test.1, refl), some.1), some.2)
+
+    description-some : (setup : Json) → IsSome (FromDescription before now old new setup)
+    description-some setup =
+        document-some (description_path setup) (codes "arazzo") (overlays_for None setup) (AfterDescription before now old new setup) (λ description within. described-some setup description)
+
+loads_some_by : KeepsWithin → LoadsSome
+loads_some_by keeps before now old new missing path =
+    reading-some (codes "setup") (AfterSetup before now old new)
+    (λ tree within. tells-some (setup_told tree) (FromDescription before now old new tree) (description-some keeps old new before now missing tree)) before now path missing
 
 pub loads_some : LoadsSome
-loads_some before now missing path =
-    reading-some (codes "setup") (AfterSetup before now)
-    (λ tree. tells-some (setup_told tree) (FromDescription before now tree) (description-some before now missing tree)) before now path missing
+loads_some = loads_some_by (λ told d root j form within is. overlaid-within told d root j within form is)
 
 pub gives_some : GivesSome
 gives_some before now missing path =
     reading-some (codes "replies") AfterReplies
-    (λ tree. tells-some (replies_told tree) (λ x. x ≡ Ok (replies_of tree)) (Ok (replies_of tree), refl, ok-some (replies_of tree))) before now path missing
+    (λ tree within. tells-some (replies_told tree) (λ x. x ≡ Ok (replies_of tree)) (Ok (replies_of tree), refl, ok-some (replies_of tree))) before now path missing
 
 -- ---- what is loaded
 
@@ -150,26 +201,53 @@ module _ {A : Type 0} (before now : FilesView) (path label : List ℕ) (Next : J
   reading-gave (inr (inl (rose, is))) = absurd (cc)
   reading-gave (inr (inr is)) = absurd (cc)
 
-module _ (before now : FilesView) (b : Bundle) where
-  source-valid : (setup description : Json) → IsDescribed setup description None → IsWithin 127 setup → IsWithin 127 description
-      → FromSource before now setup description (Ok b) → IsValid b
-  source-valid setup description described setup-within description-within came =
-      reading-gave before now (source_path setup description) (source_label description) (AfterSource setup description) b (IsValid b)
-      (λ source within goes. tells-gave b (IsValid b) (source_told (source_label description) description source) _ goes
-      (λ none is.
-      subst IsValid (sym (same-ok b (bundle_of setup description source (source_name description)) is)) (valid-bundle setup description source described setup-within description-within within))) came
+taken-gave : {A : Type 0} (a : A) (P : Type 0) (r : Result Document Refusal) (Next : Document → Result A LoadFault → Type 0) → ((d : Document) → Next d (Ok a) → P) → Taken r Next (Ok a) → P
+taken-gave a P (Ok d) Next goes came = goes d came
+taken-gave a P (Err r) Next goes is = absurd (cc)
 
-  description-valid : (setup : Json) → IsWithin 127 setup → FromDescription before now setup (Ok b) → IsValid b
-  description-valid setup within came =
-      reading-gave before now (description_path setup) (codes "arazzo") (AfterDescription before now setup) b (IsValid b)
-      (λ tree tree-within (told, described, tells). tells-gave b (IsValid b) told _ tells
-      (λ none later. tells-gave b (IsValid b) (unbuilt_told setup tree) (FromSource before now setup tree) later
-      (λ built goes. source-valid setup tree (subst (λ o. IsDescribed setup tree o) none described) within tree-within goes))) came
+applied-gave : {A : Type 0} (a : A) (P : Type 0) (old new : PatternsView) (meant : Option (Result Json Refusal)) (Next : Json → Result A LoadFault → Type 0)
+    → ((made : Json) → IsWithin 127 made → Next made (Ok a) → P) → Applied old new meant Next (Ok a) → P
+applied-gave a P old new meant Next goes (inl (tree, says, within, came)) = goes tree within came
+applied-gave a P old new meant Next goes (inr (inl (r, says, is))) = absurd (cc)
+applied-gave a P old new meant Next goes (inr (inr (rose, is))) = absurd (cc)
+
+module _ (before now : FilesView) (old new : PatternsView) where
+  module _ {A : Type 0} (a : A) (P : Type 0) (Next : Json → Result A LoadFault → Type 0) (goes : (made : Json) → IsWithin 127 made → Next made (Ok a) → P) where
+    overlaid-gave : (os : List Listed) (tree : Json) → IsWithin 127 tree → Overlaid before now old new os tree Next (Ok a) → P
+    overlaid-gave [] tree within came = goes tree within came
+    overlaid-gave (o ∷ os) tree within came =
+        let label = overlay_label o.index in
+        let Rest : Json → Result A LoadFault → Type 0 = λ made. Overlaid before now old new os made Next in
+        let Then : Document → Result A LoadFault → Type 0 = λ d. Applied old new (overlaid old.told d tree) Rest in
+        reading-gave before now o.path label (λ root. Taken (document label root) Then) a P
+        (λ root root-within read. taken-gave a P (document label root) Then
+        (λ d applied. applied-gave a P old new (overlaid old.told d tree) Rest (overlaid-gave os) applied) read) came
+
+    document-gave : (path label : List ℕ) (os : List Listed) → ReadingOverlaid before now old new path label os Next (Ok a) → P
+    document-gave path label os came = reading-gave before now path label (λ tree. Overlaid before now old new os tree Next) a P (overlaid-gave os) came
+
+  module _ (b : Bundle) where
+    source-valid : (setup description : Json) → IsDescribed setup description None → IsWithin 127 setup → IsWithin 127 description
+        → FromSource before now old new setup description (Ok b) → IsValid b
+    source-valid setup description described setup-within description-within came =
+        document-gave b (IsValid b) (AfterSource setup description)
+        (λ source within goes. tells-gave b (IsValid b) (source_told (source_label description) description source) _ goes
+        (λ none is.
+        subst IsValid (sym (same-ok b (bundle_of setup description source (source_name description)) is)) (valid-bundle setup description source described setup-within description-within within)))
+        (source_path setup description) (source_label description) (overlays_for (Some (source_name description)) setup) came
+
+    description-valid : (setup : Json) → IsWithin 127 setup → FromDescription before now old new setup (Ok b) → IsValid b
+    description-valid setup within came =
+        document-gave b (IsValid b) (AfterDescription before now old new setup)
+        (λ tree tree-within (told, described, tells). tells-gave b (IsValid b) told _ tells
+        (λ none later. tells-gave b (IsValid b) (unbuilt_told setup tree) (FromSource before now old new setup tree) later
+        (λ built goes. source-valid setup tree (subst (λ o. IsDescribed setup tree o) none described) within tree-within goes)))
+        (description_path setup) (codes "arazzo") (overlays_for None setup) came
 
 pub loads_valid : LoadsValid
-loads_valid before now path b came =
-    reading-gave before now path (codes "setup") (AfterSetup before now) b (IsValid b)
-    (λ tree within tells. tells-gave b (IsValid b) (setup_told tree) (FromDescription before now tree) tells (λ none goes. description-valid before now b tree within goes)) came
+loads_valid before now old new path b came =
+    reading-gave before now path (codes "setup") (AfterSetup before now old new) b (IsValid b)
+    (λ tree within tells. tells-gave b (IsValid b) (setup_told tree) (FromDescription before now old new tree) tells (λ none goes. description-valid before now old new b tree within goes)) came
 
 pub gives_statuses : GivesStatuses
 gives_statuses before now path replies came =

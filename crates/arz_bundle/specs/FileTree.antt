@@ -8,11 +8,13 @@ use Rattle.arz_world.specs.Outside.{FilesView, ReadsAs, Rose}
 use denote.Ref.{Bor}
 use Rattle.arz_doc.specs.Order.{seen_failure}
 use Rattle.arz_doc.specs.declared.order.Failure.{Failure}
+use Rattle.arz_overlay.specs.declared.fault.OverlayFault.{OverlayFault}
+use Rattle.arz_overlay.specs.declared.fault.OverlayFault.TheVariants as overlay
 use Rattle.arz_rules.specs.Phases.{refusal}
 use Rattle.arz_rules.specs.declared.phases.RuleFault.{RuleFault}
 use Rattle.arz_rules.specs.declared.phases.RuleFault.TheVariants as rule
 use Rattle.arz_bundle.specs.declared.fault.LoadFault.{LoadFault}
-use Rattle.arz_bundle.specs.declared.fault.LoadFault.TheVariants.{File, Refused, Memory}
+use Rattle.arz_bundle.specs.declared.fault.LoadFault.TheVariants.{File, Refused, Pattern, Memory}
 use Rattle.arz_bundle.specs.Loading.{file_limit, IsFile, NoFile}
 
 -- before, now: what the files show before a read and after it
@@ -21,6 +23,7 @@ module _ (before now : FilesView) (path label : List ℕ) where
   HasTree (Ok tree) = (bytes : List ℕ) × ReadsAs (before.told path) file_limit bytes × IsFile bytes tree
   HasTree (Err (File p)) = Rose (before.faults path) (now.faults path) × (p ≡ path)
   HasTree (Err (Refused r)) = (bytes : List ℕ) × ReadsAs (before.told path) file_limit bytes × NoFile label bytes r
+  HasTree (Err Pattern) = ⊥
   HasTree (Err Memory) = Unit {0}
 
 -- no rule of a phase fails; or what the phase tells; or memory ran out
@@ -33,10 +36,16 @@ abbrev pub load_fault : RuleFault → LoadFault
 load_fault (rule.Refused r) = Refused r
 load_fault rule.Memory = Memory
 
+abbrev pub overlay_fault : OverlayFault → LoadFault
+overlay_fault (overlay.Refused r) = Refused r
+overlay_fault overlay.Pattern = Pattern
+overlay_fault overlay.Memory = Memory
+
 -- this rule is told of the whole document, or memory ran out
 abbrev pub FailsAt : (label : List ℕ) → ℕ → LoadFault → Type 0
 FailsAt label n (File path) = ⊥
 FailsAt label n (Refused r) = r ≡ refusal label (n, [])
+FailsAt label n Pattern = ⊥
 FailsAt label n Memory = Unit {0}
 
 -- a description's failure as it is told, and one with its label
@@ -45,3 +54,7 @@ seen_refusal label failure = option_map (refusal label) (option_map seen_failure
 
 abbrev pub labelled : Bor (List ℕ) × Failure → Refusal
 labelled p = refusal p.0.now (seen_failure p.1)
+
+-- this tree is given
+abbrev pub Given : Json → Result Json LoadFault → Type 0
+Given tree x = x ≡ Ok tree

@@ -2,6 +2,7 @@
 use Rattle.std.specs.Prelude.{◌≡◌, ◌≢◌, ℕ, List, All, None, Some}
 use Rattle.std.specs.declared.result.Result.{Result}
 use Rattle.std.specs.declared.result.Result.TheVariants.{Ok, Err}
+use Rattle.arz_rx.specs.Patterns.{PatternsView}
 use Rattle.arz_world.specs.Outside.{FilesView, Rose}
 use Rattle.arz_world.specs.declared.Reply.{Reply}
 use Rattle.arz_flow.specs.declared.bundle.Bundle.{Bundle}
@@ -15,9 +16,9 @@ use Rattle.arz_bundle.specs.Replies.{HasStatus}
 abbrev pub MissingFail : (before now : FilesView) → Type 0
 MissingFail before now = (path : List ℕ) → before.told path ≡ Some None → Rose (before.faults path) (now.faults path)
 
--- Whatever the files hold, loading comes to something else than want of memory.
+-- Whatever the files hold and whatever is told of patterns, loading comes to something else than want of memory.
 abbrev pub LoadsSome : Type 0
-LoadsSome = (before now : FilesView) → MissingFail before now → (path : List ℕ) → (x : Result Bundle LoadFault) × Loads before now path x × (x ≢ Err Memory)
+LoadsSome = (before now : FilesView) (old new : PatternsView) → MissingFail before now → (path : List ℕ) → (x : Result Bundle LoadFault) × Loads before now old new path x × (x ≢ Err Memory)
 
 -- So do the replies.
 abbrev pub GivesSome : Type 0
@@ -25,7 +26,7 @@ GivesSome = (before now : FilesView) → MissingFail before now → (path : List
 
 -- A bundle that is loaded is valid.
 abbrev pub LoadsValid : Type 0
-LoadsValid = (before now : FilesView) (path : List ℕ) (b : Bundle) → Loads before now path (Ok b) → IsValid b
+LoadsValid = (before now : FilesView) (old new : PatternsView) (path : List ℕ) (b : Bundle) → Loads before now old new path (Ok b) → IsValid b
 
 -- Replies that are given have a status of 200 to 599.
 abbrev pub GivesStatuses : Type 0

@@ -6,6 +6,7 @@ pub mod Forms
 pub mod Laws
 pub mod Loading
 pub mod Naming
+pub mod Overlays
 pub mod Phases
 pub mod Printable
 pub mod Replies

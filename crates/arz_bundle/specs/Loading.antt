@@ -4,14 +4,20 @@ use Rattle.std.specs.declared.result.Result.{Result}
 use Rattle.std.specs.declared.result.Result.TheVariants.{Ok, Err}
 use Rattle.arz_json.specs.Look.{items_at}
 use Rattle.arz_json.specs.Reading.{Reads}
+use Rattle.arz_json.specs.Tree.{IsWithin}
 use Rattle.arz_json.specs.declared.Json.{Json}
 use Rattle.arz_json.specs.declared.Refusal.{Refusal}
 use Rattle.arz_world.specs.Outside.{FilesView, ReadsAs, Rose}
 use Rattle.arz_world.specs.declared.Reply.{Reply}
 use Rattle.arz_flow.specs.declared.bundle.Bundle.{Bundle}
+use Rattle.arz_overlay.specs.Applied.{Says}
+use Rattle.arz_overlay.specs.Documents.{Document, document}
+use Rattle.arz_overlay.specs.Overlaid.{overlaid}
 use Rattle.arz_rules.specs.Phases.{refusal}
+use Rattle.arz_rx.specs.Patterns.{PatternsView, Rose as PatternsRose}
 use Rattle.arz_bundle.specs.declared.fault.LoadFault.{LoadFault}
-use Rattle.arz_bundle.specs.declared.fault.LoadFault.TheVariants.{File, Refused, Memory}
+use Rattle.arz_bundle.specs.declared.fault.LoadFault.TheVariants.{File, Refused, Pattern, Memory}
+use Rattle.arz_bundle.specs.Overlays.{Listed, overlays_for, overlay_label}
 use Rattle.arz_bundle.specs.Phases.{setup_told, IsDescribed, unbuilt_told, source_told, replies_told}
 use Rattle.arz_bundle.specs.Replies.{replies_of}
 use Rattle.arz_bundle.specs.Setup.{description_path, path_of_source, first_text, bundle_of}
@@ -52,6 +58,37 @@ module _ {A : Type 0} where
       ⊎ (Rose (before.faults path) (now.faults path) × (x ≡ Err (File path)))
       ⊎ (x ≡ Err Memory)
 
+-- ---- overlays (Overlay 1.0.0)
+
+module _ {A : Type 0} where
+  -- an overlay document that is taken; or the first rule that it fails is told
+  abbrev pub Taken : Result Document Refusal → (Document → Result A LoadFault → Type 0) → Result A LoadFault → Type 0
+  Taken (Ok d) Next x = Next d x
+  Taken (Err r) Next x = x ≡ Err (Refused r)
+
+  -- An overlay is applied: it makes a tree, or an action is refused, or a pattern was too big.
+  -- meant: what the overlay makes of the tree, where that is told; old, new: the patterns at the call's beginning and end
+  abbrev pub Applied : (old new : PatternsView) → (meant : Option (Result Json Refusal)) → (Json → Result A LoadFault → Type 0) → Result A LoadFault → Type 0
+  Applied old new meant Next x =
+      ((tree : Json) × Says meant (Ok tree) × IsWithin 127 tree × Next tree x)
+      ⊎ ((r : Refusal) × Says meant (Err r) × (x ≡ Err (Refused r)))
+      ⊎ (PatternsRose old.too_big new.too_big × (x ≡ Err Pattern))
+
+  module _ (before now : FilesView) (old new : PatternsView) where
+    -- one overlay: its file, its rules, and its actions on the tree
+    abbrev pub OneOverlay : Listed → (tree : Json) → (Json → Result A LoadFault → Type 0) → Result A LoadFault → Type 0
+    OneOverlay o tree Next =
+        Reading before now o.path (overlay_label o.index) (λ root. Taken (document (overlay_label o.index) root) (λ d. Applied old new (overlaid old.told d tree) Next))
+
+    -- one after another, each on what the one before made
+    abbrev pub Overlaid : List Listed → (tree : Json) → (Json → Result A LoadFault → Type 0) → Result A LoadFault → Type 0
+    Overlaid [] tree Next x = Next tree x
+    Overlaid (o ∷ os) tree Next x = OneOverlay o tree (λ made. Overlaid os made Next) x
+
+    -- a document: its file, and then its overlays
+    abbrev pub ReadingOverlaid : (path label : List ℕ) → List Listed → (Json → Result A LoadFault → Type 0) → Result A LoadFault → Type 0
+    ReadingOverlaid path label os Next = Reading before now path label (λ tree. Overlaid os tree Next)
+
 -- ---- the files, one by one, and their phases
 
 -- the name of the one source
@@ -77,9 +114,14 @@ AfterSource setup description source =
 abbrev pub AfterReplies : Json → Result (List Reply) LoadFault → Type 0
 AfterReplies tree = Tells (replies_told tree) (λ x. x ≡ Ok (replies_of tree))
 
-module _ (before now : FilesView) where
+-- the replies of the file at this path
+abbrev pub Gives_replies : (before now : FilesView) → List ℕ → Result (List Reply) LoadFault → Type 0
+Gives_replies before now path = Reading before now path (codes "replies") AfterReplies
+
+module _ (before now : FilesView) (old new : PatternsView) where
   abbrev pub FromSource : (setup description : Json) → Result Bundle LoadFault → Type 0
-  FromSource setup description = Reading before now (source_path setup description) (source_label description) (AfterSource setup description)
+  FromSource setup description =
+      ReadingOverlaid before now old new (source_path setup description) (source_label description) (overlays_for (Some (source_name description)) setup) (AfterSource setup description)
 
   -- the description's rules with those of what the setup names in it, and then what isn't built yet
   abbrev pub AfterDescription : (setup description : Json) → Result Bundle LoadFault → Type 0
@@ -87,7 +129,7 @@ module _ (before now : FilesView) where
       (told : Option Refusal) × IsDescribed setup description told × Tells told (Tells (unbuilt_told setup description) (FromSource setup description)) x
 
   abbrev pub FromDescription : (setup : Json) → Result Bundle LoadFault → Type 0
-  FromDescription setup = Reading before now (description_path setup) (codes "arazzo") (AfterDescription setup)
+  FromDescription setup = ReadingOverlaid before now old new (description_path setup) (codes "arazzo") (overlays_for None setup) (AfterDescription setup)
 
   abbrev pub AfterSetup : (setup : Json) → Result Bundle LoadFault → Type 0
   AfterSetup setup = Tells (setup_told setup) (FromDescription setup)
@@ -95,7 +137,3 @@ module _ (before now : FilesView) where
   -- the setup at this path, the description and the source, in this order
   abbrev pub Loads : List ℕ → Result Bundle LoadFault → Type 0
   Loads path = Reading before now path (codes "setup") AfterSetup
-
-  -- the replies of the file at this path
-  abbrev pub Gives_replies : List ℕ → Result (List Reply) LoadFault → Type 0
-  Gives_replies path = Reading before now path (codes "replies") AfterReplies

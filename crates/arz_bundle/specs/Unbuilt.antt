@@ -17,7 +17,7 @@ everywhere j = here
 -- ---- the setup
 
 abbrev pub unbuilt_of_setup : Check
-unbuilt_of_setup setup = at (member (codes "servers") ∷ []) everywhere setup ++ at (member (codes "overlays") ∷ each_item ∷ []) everywhere setup
+unbuilt_of_setup setup = at (member (codes "servers") ∷ []) everywhere setup
 
 -- ---- the description
 

@@ -3,6 +3,7 @@ ghost use Rattle.std.specs.Prelude.{◌≡◌};
 ghost use Rattle.arz_bundle.specs.declared.fault.LoadFault.TheVariants.{Memory};
 
 use arz_json::{Refusal, Text};
+use arz_overlay::OverlayFault;
 use arz_rules::RuleFault;
 use std::alloc::{AllocError, AllocFailed};
 use thiserror::Error;
@@ -16,6 +17,9 @@ pub enum LoadFault {
     /// This is the first rule that a file fails.
     #[error("a file is refused")]
     Refused(Refusal),
+    /// A pattern that an overlay's target needs was too big. The count of such patterns has risen.
+    #[error("a pattern is too big")]
+    Pattern,
     /// Memory ran out.
     #[error("out of memory")]
     Memory,
@@ -46,6 +50,20 @@ impl From<RuleFault> for LoadFault {
         match fault {
             RuleFault::Refused(refusal) => LoadFault::Refused(refusal),
             RuleFault::Memory => LoadFault::Memory,
+        }
+    }
+}
+
+impl From<OverlayFault> for LoadFault {
+    ghost use Rattle.arz_bundle.specs.FileTree.{overlay_fault};
+
+    ghost from_gives = { λ f e. e ≡ overlay_fault f };
+
+    fn from(fault: OverlayFault) -> Self {
+        match fault {
+            OverlayFault::Refused(refusal) => LoadFault::Refused(refusal),
+            OverlayFault::Pattern => LoadFault::Pattern,
+            OverlayFault::Memory => LoadFault::Memory,
         }
     }
 }

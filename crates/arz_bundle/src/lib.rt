@@ -9,6 +9,7 @@ mod given;
 pub mod laws;
 mod loading;
 mod naming;
+mod overlays;
 mod phases;
 mod rules;
 mod setup;

@@ -3,12 +3,14 @@ ghost use Rattle.std.specs.Prelude.{◌≡◌, ◌≤◌, ℕ, List, IfOk, None,
 ghost use Rattle.arz_json.specs.Tree.{IsWithin};
 ghost use Rattle.arz_json.specs.Look.{members_at as members_under};
 ghost use Rattle.arz_flow.specs.Valid.{IsValid};
+ghost use Rattle.arz_path.specs.Results.{Asked};
 ghost use Rattle.arz_bundle.specs.Loading.{source_name as name_of_source, source_label as label_of_source, source_path as path_of_first, FromSource, FromDescription, Loads};
 ghost use Rattle.arz_bundle.specs.Phases.{IsDescribed};
 ghost use Rattle.arz_bundle.specs.Setup.{bundle_of};
 
 use crate::fault::LoadFault;
 use crate::files::read_tree;
+use crate::overlays::read_overlaid;
 use crate::phases::{check_built, check_description};
 use crate::rules::{check_setup, check_source};
 use crate::setup::{
@@ -16,57 +18,72 @@ use crate::setup::{
 };
 use arz_flow::Bundle;
 use arz_json::{Json, Many, Members, Named, Text, items_at, text_at};
+use arz_rx::Patterns;
 use arz_world::Files;
 use std::alloc::{AllocError, Global};
 
-/// Reads the setup at a path, and the description and the source that it leads to. The files are read
-/// one by one, each is judged by its rules, and the first that can't be read or fails a rule decides. A
-/// refusal has the document's label: `setup`, `arazzo` or `source NAME`.
-pub fn load<F: Files>(alloc: Global, path: &str, files: &mut F) -> Result<Bundle, LoadFault>
-    ensures loads { Loads (F.files files.old) (F.files files.new) path.now result }
+/// Reads the setup at a path, and the description and the source that it leads to, each with its overlays. The
+/// files are read one by one, each is judged by its rules, and the first that can't be read or fails a rule
+/// decides. A refusal has the document's label: `setup`, `arazzo`, `source NAME` or `overlay K`, with the
+/// overlay's number in the setup's whole list. `rx` searches for the patterns of overlays' targets; `Pattern`
+/// comes only where the count of patterns too big has risen.
+pub fn load<F: Files, P: Patterns>(
+    alloc: Global,
+    path: &str,
+    files: &mut F,
+    rx: &mut P,
+) -> Result<Bundle, LoadFault>
+    ensures loads { Loads (F.files files.old) (F.files files.new) (P.patterns rx.old) (P.patterns rx.new) path.now result }
     ensures valid { IfOk result IsValid }
     ensures told { (F.files files.new).told ≡ (F.files files.old).told }
     ensures counts { (p : List ℕ) → (F.files files.old).faults p ≤ (F.files files.new).faults p }
+    ensures asked { Asked (P.patterns rx.old) (P.patterns rx.new) }
 {
     let setup = read_tree(alloc, path, "setup", files)?;
     check_setup(alloc, &setup)?;
-    from_description(alloc, setup, files)
+    from_description(alloc, setup, files, rx)
 }
 
-fn from_description<F: Files>(
+fn from_description<F: Files, P: Patterns>(
     alloc: Global,
     setup: Json,
     files: &mut F,
+    rx: &mut P,
 ) -> Result<Bundle, LoadFault>
     requires { IsWithin 127 setup }
-    ensures loads { FromDescription (F.files files.old) (F.files files.new) setup result }
+    ensures loads { FromDescription (F.files files.old) (F.files files.new) (P.patterns rx.old) (P.patterns rx.new) setup result }
     ensures valid { IfOk result IsValid }
     ensures told { (F.files files.new).told ≡ (F.files files.old).told }
     ensures counts { (p : List ℕ) → (F.files files.old).faults p ≤ (F.files files.new).faults p }
+    ensures asked { Asked (P.patterns rx.old) (P.patterns rx.new) }
 {
-    let description = read_tree(alloc, text_at(&setup, "arazzo"), "arazzo", files)?;
+    let path = text_at(&setup, "arazzo");
+    let description = read_overlaid(alloc, &setup, None, path, "arazzo", files, rx)?;
     check_description(alloc, &setup, &description)?;
     check_built(alloc, &setup, &description)?;
-    from_source(alloc, setup, description, files)
+    from_source(alloc, setup, description, files, rx)
 }
 
-fn from_source<F: Files>(
+fn from_source<F: Files, P: Patterns>(
     alloc: Global,
     setup: Json,
     description: Json,
     files: &mut F,
+    rx: &mut P,
 ) -> Result<Bundle, LoadFault>
     requires described { IsDescribed setup description None }
     requires setup_nests { IsWithin 127 setup }
     requires description_nests { IsWithin 127 description }
-    ensures loads { FromSource (F.files files.old) (F.files files.new) setup description result }
+    ensures loads { FromSource (F.files files.old) (F.files files.new) (P.patterns rx.old) (P.patterns rx.new) setup description result }
     ensures valid { IfOk result IsValid }
     ensures told { (F.files files.new).told ≡ (F.files files.old).told }
     ensures counts { (p : List ℕ) → (F.files files.old).faults p ≤ (F.files files.new).faults p }
+    ensures asked { Asked (P.patterns rx.old) (P.patterns rx.new) }
 {
     let label = source_label(alloc, &description)?;
+    let name = source_name(&description);
     let path = first_source_path(&setup, &description);
-    let source = read_tree(alloc, path, label.as_str(), files)?;
+    let source = read_overlaid(alloc, &setup, Some(name), path, label.as_str(), files, rx)?;
     check_source(alloc, label.as_str(), &description, &source)?;
     Ok(make_bundle(alloc, setup, description, source)?)
 }

@@ -22,9 +22,7 @@ pub(crate) fn first_unbuilt_of_setup(
     requires { IsWithin 127 setup.now }
     ensures { IfOk result (λ p. tokens_in p ≡ least (unbuilt_of_setup setup.now)) }
 {
-    let servers = first_at(alloc, &[Member("servers")], &Everywhere {}, setup)?;
-    let overlays = [Member("overlays"), EachItem];
-    Ok(lesser(servers, first_at(alloc, &overlays, &Everywhere {}, setup)?))
+    first_at(alloc, &[Member("servers")], &Everywhere {}, setup)
 }
 
 /// The least place of what isn't built in a description.
