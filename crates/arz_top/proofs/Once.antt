@@ -1,18 +1,24 @@
--- Over files that tell what they hold, and of which a read failed only where no file is there, files give one result.
-use Rattle.std.proofs.Common.{◌≡◌, ◌≢◌, ◌<◌, ◌≤◌, inl, inr, ℕ, List, length, codes, Option, None, Some, Result, Ok, Err, refl, sym, ap, ◌∙◌, subst, arith}
+-- Over files that tell what they hold, and of which a read failed only where no file is there, and patterns that tell all, of which none was too big, files give one result.
+use Rattle.std.proofs.Common.{◌≡◌, ◌≢◌, ◌<◌, ◌≤◌, inl, inr, ℕ, List, [], ◌∷◌, length, codes, Option, None, Some, Result, Ok, Err, refl, sym, ap, ◌∙◌, subst, arith}
 use Rattle.arz_json.specs.declared.Json.{Json}
 use Rattle.arz_json.proofs.Readings.{Reads-unique}
+use Rattle.arz_overlay.specs.Applied.{Says}
+use Rattle.arz_overlay.specs.Documents.{Document, document}
+use Rattle.arz_overlay.specs.Overlaid.{overlaid}
+use Rattle.arz_rx.specs.Patterns.{PatternsView}
 use Rattle.arz_world.specs.Outside.{FilesView, ReadsAs, Rose, Told}
 use Rattle.arz_json.specs.declared.Refusal.{Refusal}
 use Rattle.arz_bundle.specs.declared.fault.LoadFault.{LoadFault}
-use Rattle.arz_bundle.specs.declared.fault.LoadFault.TheVariants.{Refused, Memory}
-use Rattle.arz_bundle.specs.Loading.{file_limit, IsFile, NoFile, Tells, Judged, Reading, source_name, source_label, source_path, AfterSource, FromSource, AfterDescription, FromDescription, AfterSetup, Loads, AfterReplies, Gives_replies}
+use Rattle.arz_bundle.specs.declared.fault.LoadFault.TheVariants.{Refused, Pattern, Memory}
+use Rattle.arz_bundle.specs.Loading.{file_limit, IsFile, NoFile, Tells, Judged, Reading, Taken, Applied, Overlaid, ReadingOverlaid, source_name, source_label, source_path, AfterSource, FromSource, AfterDescription, FromDescription, AfterSetup, Loads, AfterReplies, Gives_replies}
 use Rattle.arz_doc.proofs.OneTest.{same_rules}
 use Rattle.arz_bundle.specs.Naming.{naming_rules}
+use Rattle.arz_bundle.specs.Overlays.{Listed, overlays_for, overlay_label}
 use Rattle.arz_bundle.specs.Phases.{told as told_of, earlier, setup_told, IsDescribed, unbuilt_told, source_told, replies_told}
 use Rattle.arz_bundle.specs.Replies.{replies_of}
 use Rattle.arz_bundle.specs.Setup.{description_path, bundle_of}
-use Rattle.arz_top.specs.Steady.{IsSteady}
+use Rattle.arz_bundle.proofs.OverlaysTold.{overlaid-told}
+use Rattle.arz_top.specs.Steady.{IsSteady, ArePatternsSteady}
 
 -- all results of this kind are one, but want of memory
 abbrev pub IsOne : {A : Type 0} → (Result A LoadFault → Type 0) → Type 0
@@ -77,27 +83,75 @@ one-described setup description o p (f, f-tells, o-is) (g, g-tells, p-is) =
     let named = told_of (codes "setup") (naming_rules description setup) in
     o-is ∙ ap (λ rs. earlier named (told_of (codes "arazzo") rs)) (same_rules description f g f-tells g-tells) ∙ sym p-is
 
-module _ (before now : FilesView) (steady : IsSteady before now) where
-  source-one : (setup description : Json) → IsOne (FromSource before now setup description)
-  source-one setup description =
-      reading-one (source_label description) (AfterSource setup description)
-      (λ tree. gives-one (source_told (source_label description) description tree) (Ok (bundle_of setup description tree (source_name description))))
-      before now (source_path setup description) steady
+-- ---- overlays
 
-  described-one : (setup description : Json) → IsOne (AfterDescription before now setup description)
+taken-one : {A : Type 0} (d : Result Document Refusal) (Next : Document → Result A LoadFault → Type 0) → ((d : Document) → IsOne (Next d)) → IsOne (Taken d Next)
+taken-one (Ok d) Next one x y mx my p q = one d x y mx my p q
+taken-one (Err r) Next one x y mx my p q = p ∙ sym q
+
+abbrev Meant : Type 0
+Meant = Result Json Refusal
+
+same-made : (m : Meant) (i j : Json) → m ≡ Ok i → m ≡ Ok j → j ≡ i
+same-made m i j p q = cc
+
+same-refused : (m : Meant) (r s : Refusal) → m ≡ Err r → m ≡ Err s → r ≡ s
+same-refused m r s p q = cc
+
+not-both-made : (m : Meant) (j : Json) (r : Refusal) → m ≡ Ok j → m ≡ Err r → ⊥
+not-both-made m j r p q = cc
+
+module _ (old new : PatternsView) (sure : ArePatternsSteady old new) where
+  applied-one : {A : Type 0} (Next : Json → Result A LoadFault → Type 0) → ((made : Json) → IsOne (Next made)) → (meant : Option Meant) → meant ≢ None → IsOne (Applied old new meant Next)
+  applied-one Next one None some x y mx my p q = absurd (some refl)
+  applied-one Next one (Some m) some x y mx my (inl (i, says, within, goes)) (inl (j, says', within', goes')) =
+      one i x y mx my goes (subst (λ t. Next t y) (same-made m i j says says') goes')
+  applied-one Next one (Some m) some x y mx my (inl (i, says, within, goes)) (inr (inl (r, says', is))) = absurd (not-both-made m i r says says')
+  applied-one Next one (Some m) some x y mx my (inl p) (inr (inr q)) = absurd (sure.sized q.0)
+  applied-one Next one (Some m) some x y mx my (inr (inl (r, says, is))) (inl (j, says', within', goes')) = absurd (not-both-made m j r says' says)
+  applied-one Next one (Some m) some x y mx my (inr (inl (r, says, is))) (inr (inl (s, says', is'))) =
+      is ∙ ap (λ (z : Refusal). Err (Refused z)) (same-refused m r s says says') ∙ sym is'
+  applied-one Next one (Some m) some x y mx my (inr (inl p)) (inr (inr q)) = absurd (sure.sized q.0)
+  applied-one Next one (Some m) some x y mx my (inr (inr p)) q = absurd (sure.sized p.0)
+
+  module _ (before now : FilesView) (steady : IsSteady before now) {A : Type 0} (Next : Json → Result A LoadFault → Type 0) (one : (made : Json) → IsOne (Next made)) where
+    overlaid-one : (os : List Listed) (tree : Json) → IsOne (Overlaid before now old new os tree Next)
+    overlaid-one [] tree = one tree
+    overlaid-one (o ∷ os) tree =
+        let label = overlay_label o.index in
+        let Rest : Json → Result A LoadFault → Type 0 = λ made. Overlaid before now old new os made Next in
+        let Then : Document → Result A LoadFault → Type 0 = λ d. Applied old new (overlaid old.told d tree) Rest in
+        reading-one label (λ root. Taken (document label root) Then)
+        (λ root. taken-one (document label root) Then (λ d. applied-one Rest (overlaid-one os) (overlaid old.told d tree) (overlaid-told old.told sure.told d tree)))
+        before now o.path steady
+
+    document-one : (path label : List ℕ) (os : List Listed) → IsOne (ReadingOverlaid before now old new path label os Next)
+    document-one path label os = reading-one label (λ tree. Overlaid before now old new os tree Next) (overlaid-one os) before now path steady
+
+-- ---- the files, one by one
+
+module _ (before now : FilesView) (old new : PatternsView) (steady : IsSteady before now) (sure : ArePatternsSteady old new) where
+  source-one : (setup description : Json) → IsOne (FromSource before now old new setup description)
+  source-one setup description =
+      document-one old new sure before now steady (AfterSource setup description)
+      (λ tree. gives-one (source_told (source_label description) description tree) (Ok (bundle_of setup description tree (source_name description))))
+      (source_path setup description) (source_label description) (overlays_for (Some (source_name description)) setup)
+
+  described-one : (setup description : Json) → IsOne (AfterDescription before now old new setup description)
   described-one setup description x y mx my (told, described, came) (other, described', came') =
-      let Then = Tells (unbuilt_told setup description) (FromSource before now setup description) in
-      tells-one told Then (tells-one (unbuilt_told setup description) (FromSource before now setup description) (source-one setup description)) x y mx my came
+      let Then = Tells (unbuilt_told setup description) (FromSource before now old new setup description) in
+      tells-one told Then (tells-one (unbuilt_told setup description) (FromSource before now old new setup description) (source-one setup description)) x y mx my came
       (subst (λ o. Tells o Then y) (one-described setup description other told described' described) came')
 
-  description-one : (setup : Json) → IsOne (FromDescription before now setup)
+  description-one : (setup : Json) → IsOne (FromDescription before now old new setup)
   description-one setup =
-      reading-one (codes "arazzo") (AfterDescription before now setup) (described-one setup) before now (description_path setup) steady
+      document-one old new sure before now steady (AfterDescription before now old new setup) (described-one setup) (description_path setup) (codes "arazzo") (overlays_for None setup)
 
-  pub loads-one : (path : List ℕ) → IsOne (Loads before now path)
+  pub loads-one : (path : List ℕ) → IsOne (Loads before now old new path)
   loads-one path =
-      reading-one (codes "setup") (AfterSetup before now) (λ tree. tells-one (setup_told tree) (FromDescription before now tree) (description-one tree)) before now path steady
+      reading-one (codes "setup") (AfterSetup before now old new) (λ tree. tells-one (setup_told tree) (FromDescription before now old new tree) (description-one tree)) before now path steady
 
+module _ (before now : FilesView) (steady : IsSteady before now) where
   pub replies-one : (path : List ℕ) → IsOne (Gives_replies before now path)
   replies-one path =
       reading-one (codes "replies") AfterReplies (λ tree. gives-one (replies_told tree) (Ok (replies_of tree))) before now path steady

@@ -1,6 +1,7 @@
 -- The words come to one ending.
 use Rattle.std.proofs.Common.{◌≡◌, ◌≢◌, ℕ, List, length, ◌≤◌, true, Result, Ok, Err, sym, ◌∙◌, ap, subst}
 use denote.Struct.Props.{props}
+use Rattle.arz_rx.specs.Patterns.{PatternsView}
 use Rattle.arz_world.specs.Outside.{FilesView}
 use Rattle.arz_world.specs.declared.Reply.{Reply}
 use Rattle.arz_flow.specs.declared.answers.End.{End}
@@ -9,7 +10,7 @@ use Rattle.arz_flow.specs.Executions.{asks}
 use Rattle.arz_flow.specs.Valid.{steps_limit}
 use Rattle.arz_machine.specs.Plain.{has_plain_outputs}
 use Rattle.arz_bundle.specs.declared.fault.LoadFault.{LoadFault}
-use Rattle.arz_bundle.specs.declared.fault.LoadFault.TheVariants.{File as FileFault, Refused as RefusedFault, Memory}
+use Rattle.arz_bundle.specs.declared.fault.LoadFault.TheVariants.{File as FileFault, Refused as RefusedFault, Pattern as PatternFault, Memory}
 use Rattle.arz_session.specs.Mock.{IsMock, answers, lines_of}
 use Rattle.arz_session.specs.declared.session.Line.{Line}
 use Rattle.arz_session.specs.declared.session.Session.{Session}
@@ -18,7 +19,7 @@ use Rattle.arz_top.specs.declared.ending.Ending.{Ending}
 use Rattle.arz_top.specs.declared.ending.Ending.TheVariants.{Played}
 use Rattle.arz_top.specs.Endings.{Faulted, Plays, FromBundle, Mocks, Stands, Checks}
 use Rattle.arz_top.specs.Laws.{OneEnding}
-use Rattle.arz_top.specs.Steady.{IsSteady}
+use Rattle.arz_top.specs.Steady.{IsSteady, ArePatternsSteady}
 use Rattle.arz_top.proofs.Fronts.{one_front, one_end}
 use Rattle.arz_top.proofs.Once.{loads-one, replies-one}
 
@@ -58,6 +59,7 @@ mock_one b replies s t m n =
 faulted_one : (fault : LoadFault) (e e' : Ending) → Faulted fault e → Faulted fault e' → e ≡ e'
 faulted_one (FileFault path) e e' p q = p ∙ sym q
 faulted_one (RefusedFault refusal) e e' p q = p ∙ sym q
+faulted_one PatternFault e e' p q = p ∙ sym q
 faulted_one Memory e e' p q = absurd p
 
 plays_one : (b : Bundle) (given : Result (List Reply) LoadFault) (e e' : Ending) → Plays b given e → Plays b given e' → e ≡ e'
@@ -68,20 +70,20 @@ plays_one b (Err fault) e e' p q = faulted_one fault e e' p q
 plays_some : (b : Bundle) (given : Result (List Reply) LoadFault) (e : Ending) → Plays b given e → given ≢ Err Memory
 plays_some b given e plays is = subst (λ g. Plays b g e) is plays
 
-module _ (before now : FilesView) (steady : IsSteady before now) (replies : List ℕ) where
-  bundle_one : (loaded : Result Bundle LoadFault) (e e' : Ending) → FromBundle before now replies loaded e → FromBundle before now replies loaded e' → e ≡ e'
+module _ (before now : FilesView) (old new : PatternsView) (steady : IsSteady before now) (sure : ArePatternsSteady old new) (replies : List ℕ) where
+  bundle_one : (loaded : Result Bundle LoadFault) (e e' : Ending) → FromBundle before now old new replies loaded e → FromBundle before now old new replies loaded e' → e ≡ e'
   bundle_one (Ok bundle) e e' (given, gives, plays) (given', gives', plays') =
       let same : given' ≡ given = replies-one before now steady replies given' given (plays_some bundle given' e' plays') (plays_some bundle given e plays) gives' gives in
       plays_one bundle given e e' plays (subst (λ g. Plays bundle g e') same plays')
   bundle_one (Err fault) e e' p q = faulted_one fault e e' p q
 
-  bundle_some : (loaded : Result Bundle LoadFault) (e : Ending) → FromBundle before now replies loaded e → loaded ≢ Err Memory
-  bundle_some loaded e came is = subst (λ l. FromBundle before now replies l e) is came
+  bundle_some : (loaded : Result Bundle LoadFault) (e : Ending) → FromBundle before now old new replies loaded e → loaded ≢ Err Memory
+  bundle_some loaded e came is = subst (λ l. FromBundle before now old new replies l e) is came
 
-  mocks_one : (setup : List ℕ) (e e' : Ending) → Mocks before now replies setup e → Mocks before now replies setup e' → e ≡ e'
+  mocks_one : (setup : List ℕ) (e e' : Ending) → Mocks before now old new replies setup e → Mocks before now old new replies setup e' → e ≡ e'
   mocks_one setup e e' (loaded, loads, came) (loaded', loads', came') =
-      let same : loaded' ≡ loaded = loads-one before now steady setup loaded' loaded (bundle_some loaded' e' came') (bundle_some loaded e came) loads' loads in
-      bundle_one loaded e e' came (subst (λ l. FromBundle before now replies l e') same came')
+      let same : loaded' ≡ loaded = loads-one before now old new steady sure setup loaded' loaded (bundle_some loaded' e' came') (bundle_some loaded e came) loads' loads in
+      bundle_one loaded e e' came (subst (λ l. FromBundle before now old new replies l e') same came')
 
 stands_one : (loaded : Result Bundle LoadFault) (e e' : Ending) → Stands loaded e → Stands loaded e' → e ≡ e'
 stands_one (Ok bundle) e e' p q = p ∙ sym q
@@ -90,12 +92,12 @@ stands_one (Err fault) e e' p q = faulted_one fault e e' p q
 stands_some : (loaded : Result Bundle LoadFault) (e : Ending) → Stands loaded e → loaded ≢ Err Memory
 stands_some loaded e came is = subst (λ l. Stands l e) is came
 
-checks_one : (before now : FilesView) → IsSteady before now → (setup : List ℕ) (e e' : Ending) → Checks before now setup e → Checks before now setup e' → e ≡ e'
-checks_one before now steady setup e e' (loaded, loads, came) (loaded', loads', came') =
-    let same : loaded' ≡ loaded = loads-one before now steady setup loaded' loaded (stands_some loaded' e' came') (stands_some loaded e came) loads' loads in
+checks_one : (before now : FilesView) (old new : PatternsView) → IsSteady before now → ArePatternsSteady old new → (setup : List ℕ) (e e' : Ending) → Checks before now old new setup e → Checks before now old new setup e' → e ≡ e'
+checks_one before now old new steady sure setup e e' (loaded, loads, came) (loaded', loads', came') =
+    let same : loaded' ≡ loaded = loads-one before now old new steady sure setup loaded' loaded (stands_some loaded' e' came') (stands_some loaded e came) loads' loads in
     stands_one loaded e e' came (subst (λ l. Stands l e') same came')
 
 pub one_ending : OneEnding
-one_ending before now Unknown e e' steady p q = p ∙ sym q
-one_ending before now (Check setup) e e' steady p q = checks_one before now steady setup e e' p q
-one_ending before now (Mock setup replies) e e' steady p q = mocks_one before now steady replies setup e e' p q
+one_ending before now old new Unknown e e' steady sure p q = p ∙ sym q
+one_ending before now old new (Check setup) e e' steady sure p q = checks_one before now old new steady sure setup e e' p q
+one_ending before now old new (Mock setup replies) e e' steady sure p q = mocks_one before now old new steady sure replies setup e e' p q

@@ -8,7 +8,7 @@ use Rattle.arz_flow.specs.declared.answers.Spot.{Spot}
 use Rattle.arz_flow.specs.declared.answers.End.TheVariants.{Completed, Broke, Out, Stuck, Budget}
 use Rattle.arz_session.specs.declared.session.Session.{Session}
 use Rattle.arz_top.specs.declared.ending.Ending.{Ending}
-use Rattle.arz_top.specs.declared.ending.Ending.TheVariants.{Words, File, Refused, Ready, Played}
+use Rattle.arz_top.specs.declared.ending.Ending.TheVariants.{Words, File, Refused, Pattern, Ready, Played}
 
 -- Came: the endings that the words may come to
 pub record Exact (Came : Ending → Type 0) (answer : ℕ) : Type 0 where
@@ -20,4 +20,5 @@ pub record Exact (Came : Ending → Type 0) (answer : ℕ) : Type 0 where
   pub refused : (refusal : Refusal) → Came (Refused refusal) → answer ≡ 3
   pub budget : (s : Session) (limit : ℕ) → Came (Played s) → s.end ≡ Budget limit → answer ≡ 6
   pub stuck : (s : Session) (cause : Cause) (at : Spot) → Came (Played s) → s.end ≡ Stuck cause at → answer ≡ 7
+  pub pattern : Came Pattern → answer ≡ 15
   pub out : (s : Session) (ask : Ask) → Came (Played s) → s.end ≡ Out ask → answer ≡ 14

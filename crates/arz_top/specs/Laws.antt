@@ -1,6 +1,7 @@
 -- Statements of the laws of endings.
 use Rattle.std.specs.Prelude.{◌≡◌, ◌⊎◌, List}
 use Rattle.std.specs.declared.result.Result.TheVariants.{Ok}
+use Rattle.arz_rx.specs.Patterns.{PatternsView}
 use Rattle.arz_world.specs.Outside.{FilesView}
 use Rattle.arz_world.specs.declared.Reply.{Reply}
 use Rattle.arz_flow.specs.declared.bundle.Bundle.{Bundle}
@@ -11,18 +12,20 @@ use Rattle.arz_top.specs.declared.words.Command.{Command}
 use Rattle.arz_top.specs.declared.words.Command.TheVariants.{Mock, Check, Unknown}
 use Rattle.arz_top.specs.declared.ending.Ending.{Ending}
 use Rattle.arz_top.specs.Endings.{Comes}
-use Rattle.arz_top.specs.Steady.{IsSteady}
+use Rattle.arz_top.specs.Steady.{IsSteady, ArePatternsSteady}
 
--- Over files that tell what they hold, and of which a read failed only where no file is there, the words come to no two endings.
+-- Over files that tell what they hold, and of which a read failed only where no file is there, and patterns that tell all, of which none was too big, the words come to no two endings.
 abbrev pub OneEnding : Type 0
-OneEnding = (before now : FilesView) (command : Command) (e e' : Ending) → IsSteady before now → Comes before now command e → Comes before now command e' → e ≡ e'
+OneEnding =
+    (before now : FilesView) (old new : PatternsView) (command : Command) (e e' : Ending) → IsSteady before now → ArePatternsSteady old new
+    → Comes before now old new command e → Comes before now old new command e' → e ≡ e'
 
 -- the words are mock, and the files give a bundle and replies, over which the execution has an end
-abbrev pub IsRun : (before now : FilesView) → Command → Type 0
-IsRun before now (Mock setup replies) = (bundle : Bundle) × (given : List Reply) × Loads before now setup (Ok bundle) × Gives_replies before now replies (Ok given) × HasEndOver bundle given
-IsRun before now (Check setup) = ⊥
-IsRun before now Unknown = ⊥
+abbrev pub IsRun : (before now : FilesView) (old new : PatternsView) → Command → Type 0
+IsRun before now old new (Mock setup replies) = (bundle : Bundle) × (given : List Reply) × Loads before now old new setup (Ok bundle) × Gives_replies before now replies (Ok given) × HasEndOver bundle given
+IsRun before now old new (Check setup) = ⊥
+IsRun before now old new Unknown = ⊥
 
--- Whatever the files hold, the words come to an ending, or they are mock and the execution has an end.
+-- Whatever the files hold and whatever is told of patterns, the words come to an ending, or they are mock and the execution has an end.
 abbrev pub EndingOrRun : Type 0
-EndingOrRun = (before now : FilesView) (command : Command) → MissingFail before now → ((e : Ending) × Comes before now command e) ⊎ IsRun before now command
+EndingOrRun = (before now : FilesView) (old new : PatternsView) (command : Command) → MissingFail before now → ((e : Ending) × Comes before now old new command e) ⊎ IsRun before now old new command

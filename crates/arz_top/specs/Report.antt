@@ -16,7 +16,7 @@ use Rattle.arz_session.specs.declared.session.How.TheVariants.{Held, Sent, Serve
 use Rattle.arz_session.specs.declared.session.Line.{Line}
 use Rattle.arz_session.specs.declared.session.Session.{Session}
 use Rattle.arz_top.specs.declared.ending.Ending.{Ending}
-use Rattle.arz_top.specs.declared.ending.Ending.TheVariants.{Words, File, Refused, Ready, Played}
+use Rattle.arz_top.specs.declared.ending.Ending.TheVariants.{Words, File, Refused, Pattern, Ready, Played}
 
 -- each line ends with LF
 abbrev pub line : List ℕ → List ℕ
@@ -96,6 +96,7 @@ abbrev pub report : Ending → List ℕ
 report Words = line (codes "words")
 report (File path) = file_report path
 report (Refused refusal) = refusal_line refusal
+report Pattern = line (codes "pattern")
 report Ready = line (codes "ok")
 report (Played session) = session_report session
 
@@ -111,5 +112,6 @@ abbrev pub status : Ending → ℕ
 status Words = 2
 status (File path) = 13
 status (Refused refusal) = 3
+status Pattern = 15
 status Ready = 0
 status (Played session) = end_status session.end

@@ -11,6 +11,8 @@ pub enum Ending {
     File(Text),
     /// This is the first rule that a document fails.
     Refused(Refusal),
+    /// A pattern that an overlay needs was too big.
+    Pattern,
     /// The files of the setup give a bundle.
     Ready,
     /// The workflow was run over the given replies.

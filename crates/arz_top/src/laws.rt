@@ -1,8 +1,8 @@
 //! The laws of endings, which hold of all files and words. None of them has code.
 ghost use Rattle.arz_top.specs.Laws.{OneEnding, EndingOrRun};
 
-/// Over files that tell what they hold, and of which a read failed only where no file is there, the
-/// words come to no two endings.
+/// Over files that tell what they hold, and of which a read failed only where no file is there, and
+/// patterns that tell all, of which none was too big, the words come to no two endings.
 pub fn one_ending()
     ensures { OneEnding }
 {}

@@ -20,6 +20,7 @@ pub(crate) fn report(alloc: Global, ending: Ending) -> Result<Vec<u8>, AllocErro
         Ending::Words => b"words\n".to_vec(alloc),
         Ending::File(path) => file_line(alloc, path.as_str()),
         Ending::Refused(refusal) => write_refusal(alloc, &refusal),
+        Ending::Pattern => b"pattern\n".to_vec(alloc),
         Ending::Ready => b"ok\n".to_vec(alloc),
         Ending::Played(session) => write_session(alloc, session),
     }
@@ -33,6 +34,7 @@ pub(crate) fn status(ending: &Ending) -> u8
         Ending::Words => 2,
         Ending::File(_) => 13,
         Ending::Refused(_) => 3,
+        Ending::Pattern => 15,
         Ending::Ready => 0,
         Ending::Played(session) => end_status(&session.end),
     }

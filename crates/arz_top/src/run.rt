@@ -18,8 +18,8 @@ use std::alloc::{AllocError, Global};
 
 /// Does what the words say, puts the report into the sink, and answers the status that the program
 /// ends with. The words come without the program's name. The clause `ends` says which report and
-/// status belong to the words and files; the clause `rows` tells it again status by status. `rx` is
-/// what searches for patterns; no file that is taken today has one.
+/// status belong to the words, files and patterns; the clause `rows` tells it again status by status.
+/// `rx` is what searches for the patterns of overlays' targets.
 pub fn run_words<F: Files, S: Sink, P: Patterns>(
     alloc: Global,
     words: &[String],
@@ -27,21 +27,27 @@ pub fn run_words<F: Files, S: Sink, P: Patterns>(
     out: &mut S,
     rx: &mut P,
 ) -> u8
-    ensures ends { Ends (Comes (F.files files.old) (F.files files.new) (taken (map string_bytes words.now)))
+    ensures ends { Ends (Comes (F.files files.old) (F.files files.new) (P.patterns rx.old) (P.patterns rx.new) (taken (map string_bytes words.now)))
         (S.sink out.old) (S.sink out.new) result }
-    ensures rows { Rows (F.files files.old) (F.files files.new) (taken (map string_bytes words.now))
+    ensures rows { Rows (F.files files.old) (F.files files.new) (P.patterns rx.old) (P.patterns rx.new) (taken (map string_bytes words.now))
         (S.sink out.old) (S.sink out.new) result }
     ensures patterns { (P.patterns rx.old).too_big ≤ (P.patterns rx.new).too_big }
 {
-    let _ = rx;
-    print(alloc, words, files, out)
+    print(alloc, words, files, out, rx)
 }
 
-fn print<F: Files, S: Sink>(alloc: Global, words: &[String], files: &mut F, out: &mut S) -> u8
-    ensures { Ends (Comes (F.files files.old) (F.files files.new) (taken (map string_bytes words.now)))
+fn print<F: Files, S: Sink, P: Patterns>(
+    alloc: Global,
+    words: &[String],
+    files: &mut F,
+    out: &mut S,
+    rx: &mut P,
+) -> u8
+    ensures ends { Ends (Comes (F.files files.old) (F.files files.new) (P.patterns rx.old) (P.patterns rx.new) (taken (map string_bytes words.now)))
         (S.sink out.old) (S.sink out.new) result }
+    ensures patterns { (P.patterns rx.old).too_big ≤ (P.patterns rx.new).too_big }
 {
-    let Ok(ending) = ending(alloc, words, files) else {
+    let Ok(ending) = ending(alloc, words, files, rx) else {
         return memory(out);
     };
     let status = status(&ending);
@@ -56,28 +62,36 @@ fn print<F: Files, S: Sink>(alloc: Global, words: &[String], files: &mut F, out:
 }
 
 // What the words come to.
-fn ending<F: Files>(alloc: Global, words: &[String], files: &mut F) -> Result<Ending, AllocError>
-    ensures { IfOk result (Comes (F.files files.old) (F.files files.new) (taken (map string_bytes words.now))) }
+fn ending<F: Files, P: Patterns>(
+    alloc: Global,
+    words: &[String],
+    files: &mut F,
+    rx: &mut P,
+) -> Result<Ending, AllocError>
+    ensures comes { IfOk result (Comes (F.files files.old) (F.files files.new) (P.patterns rx.old) (P.patterns rx.new) (taken (map string_bytes words.now))) }
+    ensures patterns { (P.patterns rx.old).too_big ≤ (P.patterns rx.new).too_big }
 {
     match read_words(words)? {
         Command::Mock(setup, replies) => {
-            mock_files(alloc, files, setup.as_str(), replies.as_str())
+            mock_files(alloc, files, rx, setup.as_str(), replies.as_str())
         }
-        Command::Check(setup) => check_files(alloc, files, setup.as_str()),
+        Command::Check(setup) => check_files(alloc, files, rx, setup.as_str()),
         Command::Unknown => Ok(Ending::Words),
     }
 }
 
 // Runs the workflow of a setup over given replies, from the files at these paths.
-fn mock_files<F: Files>(
+fn mock_files<F: Files, P: Patterns>(
     alloc: Global,
     files: &mut F,
+    rx: &mut P,
     setup: &str,
     replies: &str,
 ) -> Result<Ending, AllocError>
-    ensures { IfOk result (Mocks (F.files files.old) (F.files files.new) replies.now setup.now) }
+    ensures mocks { IfOk result (Mocks (F.files files.old) (F.files files.new) (P.patterns rx.old) (P.patterns rx.new) replies.now setup.now) }
+    ensures patterns { (P.patterns rx.old).too_big ≤ (P.patterns rx.new).too_big }
 {
-    let bundle = match load(alloc, setup, files) {
+    let bundle = match load(alloc, setup, files, rx) {
         Ok(bundle) => bundle,
         Err(fault) => return fault_ending(fault),
     };
@@ -89,10 +103,16 @@ fn mock_files<F: Files>(
 }
 
 // Loads the files of a setup.
-fn check_files<F: Files>(alloc: Global, files: &mut F, setup: &str) -> Result<Ending, AllocError>
-    ensures { IfOk result (Checks (F.files files.old) (F.files files.new) setup.now) }
+fn check_files<F: Files, P: Patterns>(
+    alloc: Global,
+    files: &mut F,
+    rx: &mut P,
+    setup: &str,
+) -> Result<Ending, AllocError>
+    ensures checks { IfOk result (Checks (F.files files.old) (F.files files.new) (P.patterns rx.old) (P.patterns rx.new) setup.now) }
+    ensures patterns { (P.patterns rx.old).too_big ≤ (P.patterns rx.new).too_big }
 {
-    match load(alloc, setup, files) {
+    match load(alloc, setup, files, rx) {
         Ok(_) => Ok(Ending::Ready),
         Err(fault) => fault_ending(fault),
     }
@@ -105,6 +125,7 @@ fn fault_ending(fault: LoadFault) -> Result<Ending, AllocError>
     match fault {
         LoadFault::File(path) => Ok(Ending::File(path)),
         LoadFault::Refused(refusal) => Ok(Ending::Refused(refusal)),
+        LoadFault::Pattern => Ok(Ending::Pattern),
         LoadFault::Memory => Err(AllocError),
     }
 }
