@@ -4,6 +4,5 @@
 mod calls;
 mod descriptions;
 mod styles;
-mod wires;
 
 pub use calls::LibraryCall;

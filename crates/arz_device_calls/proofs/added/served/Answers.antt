@@ -1,0 +1,6 @@
+use Rattle.std.proofs.Common.{arith}
+use Rattle.arz_device_calls.proofs.Spelt.{of_served}
+use Rattle.arz_device_calls.proofs.added.served.Goals as goal
+
+pub returns-clause-spells : goal.returns-clause-spells
+returns-clause-spells c = of_served c.args.number c.new.result.items (omega arith) c.new.ensures.items
