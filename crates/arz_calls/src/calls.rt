@@ -1,5 +1,5 @@
 // The calls that cases name.
-use crate::{descriptions, styles};
+use crate::{descriptions, operations, styles};
 use arz_cases::{Case, CaseFault, Outcome};
 use arz_device_calls::DeviceCall;
 use std::alloc::Global;
@@ -9,6 +9,8 @@ use std::alloc::Global;
 pub enum LibraryCall {
     Description,
     Form,
+    OpenApi,
+    Operation,
     Style,
     /// A call of `arz_device_calls`.
     Device(DeviceCall),
@@ -20,6 +22,8 @@ impl LibraryCall {
         Some(match name {
             "description" => LibraryCall::Description,
             "form" => LibraryCall::Form,
+            "openapi" => LibraryCall::OpenApi,
+            "operation" => LibraryCall::Operation,
             "style" => LibraryCall::Style,
             _ => LibraryCall::Device(DeviceCall::named(name)?),
         })
@@ -30,6 +34,8 @@ impl LibraryCall {
         match self {
             LibraryCall::Description => descriptions::description(alloc, case),
             LibraryCall::Form => styles::form(alloc, case),
+            LibraryCall::OpenApi => operations::openapi(alloc, case),
+            LibraryCall::Operation => operations::operation(alloc, case),
             LibraryCall::Style => styles::style(alloc, case),
             LibraryCall::Device(call) => call.outcome(alloc, case),
         }

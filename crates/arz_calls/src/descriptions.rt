@@ -1,18 +1,19 @@
-// The rules of a description by itself.
+// Reading a description.
 use arz_cases::{Case, CaseFault, Outcome};
-use arz_doc::first_refusal;
-use arz_rules::pointer_text;
+use arz_doc::read;
+use arz_rules::RuleFault;
 use std::alloc::Global;
 
-/// The least rule that `document` fails and the pointer of its least place, or `none`.
+/// The least rule that `document` fails and the pointer of its least place, or `none` where it is read.
 pub fn description(alloc: Global, case: &Case<'_>) -> Result<Outcome, CaseFault> {
     let tree = case.json(alloc, "document")?;
-    match first_refusal(alloc, &tree)? {
-        Some(failure) => {
-            let pointer = pointer_text(alloc, &failure.place)?;
-            let text = format!(in alloc; "{} {}", failure.rule, pointer.as_str())?;
-            Ok(Outcome::text(text))
-        }
-        None => Ok(Outcome::words(alloc, "none")?),
+    match read(alloc, &tree) {
+        Ok(_) => Ok(Outcome::words(alloc, "none")?),
+        Err(RuleFault::Refused(refusal)) => Ok(Outcome::text(format!(in alloc;
+            "{} {}",
+            refusal.rule,
+            refusal.pointer.as_str()
+        )?)),
+        Err(RuleFault::Memory) => Err(CaseFault::Memory),
     }
 }

@@ -3,6 +3,7 @@
 
 mod calls;
 mod descriptions;
+mod operations;
 mod styles;
 
 pub use calls::LibraryCall;
