@@ -1,3 +1,4 @@
 pub mod Trees
 mod Listings
 mod Overlaying
+mod Received

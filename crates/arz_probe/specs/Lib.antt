@@ -3,3 +3,4 @@ pub mod Paths
 pub mod Selections
 pub mod Journals
 pub mod Overlays
+pub mod Replies

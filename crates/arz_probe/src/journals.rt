@@ -93,7 +93,8 @@ fn add_entry(text: &mut Vec<u8>, entry: Entry) -> Result<(), AllocError>
     Ok(())
 }
 
-fn flag(flag: bool) -> &'static [u8]
+/// A flag in words.
+pub fn flag(flag: bool) -> &'static [u8]
     ensures { result.now ≡ flag_text flag }
 {
     if flag { b"true" } else { b"false" }

@@ -1,19 +1,21 @@
 //! The libraries from the command line, for conformance runs and benchmarks: the wire form of JSON
 //! trees by `wire FILE` and `unwire FILE`, queries of JSONPath by `path FILE QUERY`, overlays by
-//! `overlay OVERLAY FILE`, the mapping of I-Regexps by `iregexp [--whole] TEXT`, and the entries of a
-//! journal by `journal FILE`.
+//! `overlay OVERLAY FILE`, the mapping of I-Regexps by `iregexp [--whole] TEXT`, the entries of a
+//! journal by `journal FILE`, and replies that come in pieces by `reply [--head] PIECE FILE`.
 #![tactic(auto)]
 
 mod journals;
 mod overlays;
 mod paths;
 mod query_report;
+mod replies;
 mod report;
 
 use arz_real::RegexPatterns;
 use journals::journal_report;
 use overlays::overlay_report;
 use query_report::{iregexp_report, path_report};
+use replies::{piece_length, reply_report};
 use report::{Report, file_report, unwire_report, wire_report, words_report};
 use std::alloc::AllocError;
 use std::io::{ErrorKind, Write};
@@ -51,6 +53,12 @@ fn answered(rt: &HostRuntime) -> Result<Report, AllocError> {
             iregexp_report(rt.alloc(), text.as_str(), true)
         }
         [mode, path] if mode.as_str() == "journal" => journaled(rt, path.as_str()),
+        [mode, piece, path] if mode.as_str() == "reply" => {
+            replied(rt, false, piece.as_str(), path.as_str())
+        }
+        [mode, flag, piece, path] if mode.as_str() == "reply" && flag.as_str() == "--head" => {
+            replied(rt, true, piece.as_str(), path.as_str())
+        }
         _ => words_report(rt.alloc()),
     }
 }
@@ -72,6 +80,21 @@ fn unwired(rt: &HostRuntime, path: &str) -> Result<Report, AllocError> {
 fn journaled(rt: &HostRuntime, path: &str) -> Result<Report, AllocError> {
     match contents(rt, path)? {
         Some(bytes) => journal_report(rt.alloc(), bytes),
+        None => file_report(rt.alloc(), path),
+    }
+}
+
+fn replied(
+    rt: &HostRuntime,
+    head_only: bool,
+    piece: &str,
+    path: &str,
+) -> Result<Report, AllocError> {
+    let Some(piece) = piece_length(piece) else {
+        return words_report(rt.alloc());
+    };
+    match contents(rt, path)? {
+        Some(bytes) => reply_report(rt.alloc(), head_only, piece, bytes.as_slice()),
         None => file_report(rt.alloc(), path),
     }
 }
