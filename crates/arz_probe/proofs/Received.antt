@@ -9,7 +9,9 @@ use Rattle.arz_http.specs.Messages.{Message, Settled, Fault, settled}
 use Rattle.arz_http.specs.Readings.{ReplyReading, Seen, whole, is_closed, TakesReply, Closes}
 use Rattle.std.proofs.Common.{IfOk}
 use Rattle.std.proofs.lemmas.Result.{IfOk-weaker}
-use Rattle.arz_http.specs.WholeReplies.{IsNotWhole}
+use Rattle.arz_http.specs.WholeReplies.{IsNotWhole, IsReplyOf}
+use Rattle.arz_http.specs.declared.fault.ReplyFault.{ReplyFault}
+use Rattle.arz_http.specs.declared.fault.ReplyFault.TheVariants.{Peer, NotWhole}
 use Rattle.arz_probe.specs.declared.report.Report.{Report}
 use Rattle.arz_probe.specs.Reports.{good, refused as refusal, placed}
 use Rattle.arz_probe.specs.Replies.{cause_text, message_text, IsReplyReport, tells_message, tells_fault, HoldsMessage, IsRead}
@@ -73,9 +75,13 @@ pub report_fault : {E : Type 0} (o : Bool) (came : List ℕ) (told : PeerFault) 
 report_fault o came told text result fault is gives =
     IfOk-weaker result _ _ (λ p e. subst (IsReplyReport o came) (sym (e ∙ ap (λ (t : List ℕ). refusal (placed t told.at)) is)) (tells_fault told.cause told.at fault)) gives
 
-pub not_peer : (o : Bool) (r : ReplyReading) (message : List ℕ) (told : PeerFault) → ((head_only shut : Bool) (bytes : List ℕ) (reply : Reply) (c : PeerCause) (a : ℕ) → Message head_only shut bytes reply → Fault head_only bytes true c a → ⊥)
-    → HoldsMessage o r → message ≡ r.bytes → Fault o message true told.cause told.at → ⊥
-not_peer o r message told apart h same fault = apart o (is_closed r.seen) r.bytes h.0 told.cause told.at h.1 (subst (λ (l : List ℕ). Fault o l true told.cause told.at) same fault)
+pub not_peer : (o shut : Bool) (r : ReplyReading) (message : List ℕ) (f : ReplyFault) (told : PeerFault) → ((head_only shut : Bool) (bytes : List ℕ) (reply : Reply) (c : PeerCause) (a : ℕ) → Message head_only shut bytes reply → Fault head_only bytes true c a → ⊥)
+    → HoldsMessage o r → message ≡ r.bytes → f ≡ Peer told → IsReplyOf o shut message (Err f) → ⊥
+not_peer o shut r message f told apart h same is says =
+    apart o (is_closed r.seen) r.bytes h.0 told.cause told.at h.1 (subst (λ (l : List ℕ). Fault o l true told.cause told.at) same (subst (λ (x : ReplyFault). IsReplyOf o shut message (Err x)) is says))
 
-pub not_whole : (o shut : Bool) (r : ReplyReading) (message : List ℕ) → HoldsMessage o r → shut ≡ is_closed r.seen → message ≡ r.bytes → IsNotWhole o shut message → ⊥
-not_whole o shut r message h close same n = n.no_message h.0 (subst (λ (l : List ℕ). Message o shut l h.0) (sym same) (subst (λ (b : Bool). Message o b r.bytes h.0) (sym close) h.1))
+whole_at : (o shut : Bool) (r : ReplyReading) (message : List ℕ) → HoldsMessage o r → shut ≡ is_closed r.seen → message ≡ r.bytes → IsNotWhole o shut message → ⊥
+whole_at o shut r message h close same n = n.no_message h.0 (subst (λ (l : List ℕ). Message o shut l h.0) (sym same) (subst (λ (b : Bool). Message o b r.bytes h.0) (sym close) h.1))
+
+pub not_whole : (o shut : Bool) (r : ReplyReading) (message : List ℕ) (f : ReplyFault) → HoldsMessage o r → shut ≡ is_closed r.seen → message ≡ r.bytes → f ≡ NotWhole → IsReplyOf o shut message (Err f) → ⊥
+not_whole o shut r message f h close same is says = whole_at o shut r message h close same (subst (λ (x : ReplyFault). IsReplyOf o shut message (Err x)) is says)
