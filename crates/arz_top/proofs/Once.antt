@@ -1,5 +1,6 @@
--- Over files that tell what they hold, and of which a read failed only where no file is there, and patterns that tell all, of which none was too big, files give one result.
+-- Over files that tell what they hold, and of which a read failed only where no file is there, files give one result; where the setup lists an overlay, over patterns that tell what overlays ask of them, of which none was too big.
 use Rattle.std.proofs.Common.{◌≡◌, ◌≢◌, ◌<◌, ◌≤◌, inl, inr, ℕ, List, [], ◌∷◌, length, codes, Option, None, Some, Result, Ok, Err, refl, sym, ap, ◌∙◌, subst, arith}
+use Rattle.arz_json.specs.Look.{items_at}
 use Rattle.arz_json.specs.declared.Json.{Json}
 use Rattle.arz_json.proofs.Readings.{Reads-unique}
 use Rattle.arz_overlay.specs.Applied.{Says}
@@ -13,12 +14,11 @@ use Rattle.arz_bundle.specs.declared.fault.LoadFault.TheVariants.{Refused, Patte
 use Rattle.arz_bundle.specs.Loading.{file_limit, IsFile, NoFile, Tells, Judged, Reading, Taken, Applied, Overlaid, ReadingOverlaid, source_name, source_label, source_path, AfterSource, FromSource, AfterDescription, FromDescription, AfterSetup, Loads, AfterReplies, Gives_replies}
 use Rattle.arz_doc.proofs.OneTest.{same_rules}
 use Rattle.arz_bundle.specs.Naming.{naming_rules}
-use Rattle.arz_bundle.specs.Overlays.{Listed, overlays_for, overlay_label}
+use Rattle.arz_bundle.specs.Overlays.{Listed, items_for, overlays_for, overlay_label}
 use Rattle.arz_bundle.specs.Phases.{told as told_of, earlier, setup_told, IsDescribed, unbuilt_told, source_told, replies_told}
 use Rattle.arz_bundle.specs.Replies.{replies_of}
 use Rattle.arz_bundle.specs.Setup.{description_path, bundle_of}
-use Rattle.arz_bundle.proofs.OverlaysTold.{overlaid-told}
-use Rattle.arz_top.specs.Steady.{IsSteady, ArePatternsSteady}
+use Rattle.arz_top.specs.Steady.{IsSteady, IsFileAt, ArePatternsSteady, ListsOverlay}
 
 -- all results of this kind are one, but want of memory
 abbrev pub IsOne : {A : Type 0} → (Result A LoadFault → Type 0) → Type 0
@@ -53,25 +53,25 @@ no-tree : (label bytes : List ℕ) (r : Refusal) (tree : Json) → NoFile label 
 no-tree label bytes r tree (inl (large, p)) file = not-both (length bytes) file.0 large
 no-tree label bytes r tree (inr (small, none, p)) file = none tree file.1
 
-module _ {A : Type 0} (label : List ℕ) (Next : Json → Result A LoadFault → Type 0) (one : (tree : Json) → IsOne (Next tree)) where
-  judged-one : (bytes : List ℕ) → IsOne (Judged label Next bytes)
-  judged-one bytes x y mx my (inl (tree, file, goes)) (inl (other, file', goes')) =
-      one tree x y mx my goes (subst (λ j. Next j y) (Reads-unique bytes other tree file'.1 file.1) goes')
-  judged-one bytes x y mx my (inl (tree, file, goes)) (inr (r, none, is)) = absurd (no-tree label bytes r tree none file)
-  judged-one bytes x y mx my (inr (r, none, is)) (inl (tree, file, goes)) = absurd (no-tree label bytes r tree none file)
-  judged-one bytes x y mx my (inr (r, none, is)) (inr (s, none', is')) =
+module _ {A : Type 0} (label : List ℕ) (Next : Json → Result A LoadFault → Type 0) (before now : FilesView) (path : List ℕ) (one : (tree : Json) → IsFileAt before path tree → IsOne (Next tree)) where
+  judged-one : (bytes : List ℕ) → ReadsAs (before.told path) file_limit bytes → IsOne (Judged label Next bytes)
+  judged-one bytes reads x y mx my (inl (tree, file, goes)) (inl (other, file', goes')) =
+      one tree (bytes, reads, file) x y mx my goes (subst (λ j. Next j y) (Reads-unique bytes other tree file'.1 file.1) goes')
+  judged-one bytes reads x y mx my (inl (tree, file, goes)) (inr (r, none, is)) = absurd (no-tree label bytes r tree none file)
+  judged-one bytes reads x y mx my (inr (r, none, is)) (inl (tree, file, goes)) = absurd (no-tree label bytes r tree none file)
+  judged-one bytes reads x y mx my (inr (r, none, is)) (inr (s, none', is')) =
       is ∙ ap (λ (z : Refusal). Err (Refused z)) (fault-one label bytes r s none none') ∙ sym is'
 
-  reading-one : (before now : FilesView) (path : List ℕ) → IsSteady before now → IsOne (Reading before now path label Next)
-  reading-one before now path steady x y mx my (inl (bytes, reads, judged)) (inl (bytes', reads', judged')) =
+  reading-one : IsSteady before now → IsOne (Reading before now path label Next)
+  reading-one steady x y mx my (inl (bytes, reads, judged)) (inl (bytes', reads', judged')) =
       let same : bytes' ≡ bytes = same_bytes (before.told path) file_limit bytes' bytes (steady.told path) reads' reads in
-      judged-one bytes x y mx my judged (subst (λ b. Judged label Next b y) same judged')
-  reading-one before now path steady x y mx my (inl a) (inr (inl b)) = absurd (not-there before now path steady a.0 a.1 b.0)
-  reading-one before now path steady x y mx my (inl a) (inr (inr b)) = absurd (my b)
-  reading-one before now path steady x y mx my (inr (inl a)) (inl b) = absurd (not-there before now path steady b.0 b.1 a.0)
-  reading-one before now path steady x y mx my (inr (inl a)) (inr (inl b)) = a.1 ∙ sym b.1
-  reading-one before now path steady x y mx my (inr (inl a)) (inr (inr b)) = absurd (my b)
-  reading-one before now path steady x y mx my (inr (inr a)) b = absurd (mx a)
+      judged-one bytes reads x y mx my judged (subst (λ b. Judged label Next b y) same judged')
+  reading-one steady x y mx my (inl a) (inr (inl b)) = absurd (not-there before now path steady a.0 a.1 b.0)
+  reading-one steady x y mx my (inl a) (inr (inr b)) = absurd (my b)
+  reading-one steady x y mx my (inr (inl a)) (inl b) = absurd (not-there before now path steady b.0 b.1 a.0)
+  reading-one steady x y mx my (inr (inl a)) (inr (inl b)) = a.1 ∙ sym b.1
+  reading-one steady x y mx my (inr (inl a)) (inr (inr b)) = absurd (my b)
+  reading-one steady x y mx my (inr (inr a)) b = absurd (mx a)
 
 -- a phase, and the one result that is given where it tells nothing
 gives-one : {A : Type 0} (o : Option Refusal) (given : Result A LoadFault) → IsOne (Tells o (λ x. x ≡ given))
@@ -85,8 +85,8 @@ one-described setup description o p (f, f-tells, o-is) (g, g-tells, p-is) =
 
 -- ---- overlays
 
-taken-one : {A : Type 0} (d : Result Document Refusal) (Next : Document → Result A LoadFault → Type 0) → ((d : Document) → IsOne (Next d)) → IsOne (Taken d Next)
-taken-one (Ok d) Next one x y mx my p q = one d x y mx my p q
+taken-one : {A : Type 0} (r : Result Document Refusal) (Next : Document → Result A LoadFault → Type 0) → ((d : Document) → r ≡ Ok d → IsOne (Next d)) → IsOne (Taken r Next)
+taken-one (Ok d) Next one x y mx my p q = one d refl x y mx my p q
 taken-one (Err r) Next one x y mx my p q = p ∙ sym q
 
 abbrev Meant : Type 0
@@ -101,7 +101,7 @@ same-refused m r s p q = cc
 not-both-made : (m : Meant) (j : Json) (r : Refusal) → m ≡ Ok j → m ≡ Err r → ⊥
 not-both-made m j r p q = cc
 
-module _ (old new : PatternsView) (sure : ArePatternsSteady old new) where
+module _ (files : FilesView) (old new : PatternsView) (sure : ArePatternsSteady files old new) where
   applied-one : {A : Type 0} (Next : Json → Result A LoadFault → Type 0) → ((made : Json) → IsOne (Next made)) → (meant : Option Meant) → meant ≢ None → IsOne (Applied old new meant Next)
   applied-one Next one None some x y mx my p q = absurd (some refl)
   applied-one Next one (Some m) some x y mx my (inl (i, says, within, goes)) (inl (j, says', within', goes')) =
@@ -114,44 +114,54 @@ module _ (old new : PatternsView) (sure : ArePatternsSteady old new) where
   applied-one Next one (Some m) some x y mx my (inr (inl p)) (inr (inr q)) = absurd (sure.sized q.0)
   applied-one Next one (Some m) some x y mx my (inr (inr p)) q = absurd (sure.sized p.0)
 
-  module _ (before now : FilesView) (steady : IsSteady before now) {A : Type 0} (Next : Json → Result A LoadFault → Type 0) (one : (made : Json) → IsOne (Next made)) where
-    overlaid-one : (os : List Listed) (tree : Json) → IsOne (Overlaid before now old new os tree Next)
-    overlaid-one [] tree = one tree
-    overlaid-one (o ∷ os) tree =
-        let label = overlay_label o.index in
-        let Rest : Json → Result A LoadFault → Type 0 = λ made. Overlaid before now old new os made Next in
-        let Then : Document → Result A LoadFault → Type 0 = λ d. Applied old new (overlaid old.told d tree) Rest in
-        reading-one label (λ root. Taken (document label root) Then)
-        (λ root. taken-one (document label root) Then (λ d. applied-one Rest (overlaid-one os) (overlaid old.told d tree) (overlaid-told old.told sure.told d tree)))
-        before now o.path steady
+-- the setup lists an overlay where one is for a document of it
+lists-some : (whose : Option (List ℕ)) (setup : Json) → overlays_for whose setup ≢ [] → items_at (codes "overlays") setup ≢ []
+lists-some whose setup some none = some (ap (items_for whose 0) none)
 
-    document-one : (path label : List ℕ) (os : List Listed) → IsOne (ReadingOverlaid before now old new path label os Next)
-    document-one path label os = reading-one label (λ tree. Overlaid before now old new os tree Next) (overlaid-one os) before now path steady
+module _ (before now : FilesView) (old new : PatternsView) (steady : IsSteady before now) {A : Type 0} (Next : Json → Result A LoadFault → Type 0) (one : (made : Json) → IsOne (Next made)) where
+  overlaid-one : (os : List Listed) → (os ≢ [] → ArePatternsSteady before old new) → (tree : Json) → IsOne (Overlaid before now old new os tree Next)
+  overlaid-one [] sure tree = one tree
+  overlaid-one (o ∷ os) sure tree =
+      let label = overlay_label o.index in
+      let some : o ∷ os ≢ [] = λ none. cc in
+      let sure-here = sure some in
+      let Rest : Json → Result A LoadFault → Type 0 = λ made. Overlaid before now old new os made Next in
+      let Then : Document → Result A LoadFault → Type 0 = λ d. Applied old new (overlaid old.told d tree) Rest in
+      reading-one label (λ root. Taken (document label root) Then) before now o.path
+      (λ root file. taken-one (document label root) Then (λ d is. applied-one before old new sure-here Rest (overlaid-one os (λ more. sure-here)) (overlaid old.told d tree) (sure-here.told o.path label root tree d file is)))
+      steady
+
+  document-one : (path label : List ℕ) (os : List Listed) → (os ≢ [] → ArePatternsSteady before old new) → IsOne (ReadingOverlaid before now old new path label os Next)
+  document-one path label os sure = reading-one label (λ tree. Overlaid before now old new os tree Next) before now path (λ tree file. overlaid-one os sure tree) steady
 
 -- ---- the files, one by one
 
-module _ (before now : FilesView) (old new : PatternsView) (steady : IsSteady before now) (sure : ArePatternsSteady old new) where
-  source-one : (setup description : Json) → IsOne (FromSource before now old new setup description)
-  source-one setup description =
-      document-one old new sure before now steady (AfterSource setup description)
-      (λ tree. gives-one (source_told (source_label description) description tree) (Ok (bundle_of setup description tree (source_name description))))
-      (source_path setup description) (source_label description) (overlays_for (Some (source_name description)) setup)
+module _ (before now : FilesView) (old new : PatternsView) (steady : IsSteady before now) where
+  module _ (setup : Json) (sure : items_at (codes "overlays") setup ≢ [] → ArePatternsSteady before old new) where
+    source-one : (description : Json) → IsOne (FromSource before now old new setup description)
+    source-one description =
+        document-one before now old new steady (AfterSource setup description)
+        (λ tree. gives-one (source_told (source_label description) description tree) (Ok (bundle_of setup description tree (source_name description))))
+        (source_path setup description) (source_label description) (overlays_for (Some (source_name description)) setup)
+        (λ some. sure (lists-some (Some (source_name description)) setup some))
 
-  described-one : (setup description : Json) → IsOne (AfterDescription before now old new setup description)
-  described-one setup description x y mx my (told, described, came) (other, described', came') =
-      let Then = Tells (unbuilt_told setup description) (FromSource before now old new setup description) in
-      tells-one told Then (tells-one (unbuilt_told setup description) (FromSource before now old new setup description) (source-one setup description)) x y mx my came
-      (subst (λ o. Tells o Then y) (one-described setup description other told described' described) came')
+    described-one : (description : Json) → IsOne (AfterDescription before now old new setup description)
+    described-one description x y mx my (told, described, came) (other, described', came') =
+        let Then = Tells (unbuilt_told setup description) (FromSource before now old new setup description) in
+        tells-one told Then (tells-one (unbuilt_told setup description) (FromSource before now old new setup description) (source-one description)) x y mx my came
+        (subst (λ o. Tells o Then y) (one-described setup description other told described' described) came')
 
-  description-one : (setup : Json) → IsOne (FromDescription before now old new setup)
-  description-one setup =
-      document-one old new sure before now steady (AfterDescription before now old new setup) (described-one setup) (description_path setup) (codes "arazzo") (overlays_for None setup)
+    description-one : IsOne (FromDescription before now old new setup)
+    description-one =
+        document-one before now old new steady (AfterDescription before now old new setup) described-one (description_path setup) (codes "arazzo") (overlays_for None setup)
+        (λ some. sure (lists-some None setup some))
 
-  pub loads-one : (path : List ℕ) → IsOne (Loads before now old new path)
-  loads-one path =
-      reading-one (codes "setup") (AfterSetup before now old new) (λ tree. tells-one (setup_told tree) (FromDescription before now old new tree) (description-one tree)) before now path steady
+  pub loads-one : (path : List ℕ) → (ListsOverlay before path → ArePatternsSteady before old new) → IsOne (Loads before now old new path)
+  loads-one path sure =
+      reading-one (codes "setup") (AfterSetup before now old new) before now path
+      (λ tree file. tells-one (setup_told tree) (FromDescription before now old new tree) (description-one tree (λ some. sure (tree, file, some)))) steady
 
 module _ (before now : FilesView) (steady : IsSteady before now) where
   pub replies-one : (path : List ℕ) → IsOne (Gives_replies before now path)
   replies-one path =
-      reading-one (codes "replies") AfterReplies (λ tree. gives-one (replies_told tree) (Ok (replies_of tree))) before now path steady
+      reading-one (codes "replies") AfterReplies before now path (λ tree file. gives-one (replies_told tree) (Ok (replies_of tree))) steady

@@ -19,7 +19,7 @@ use Rattle.arz_top.specs.declared.ending.Ending.{Ending}
 use Rattle.arz_top.specs.declared.ending.Ending.TheVariants.{Played}
 use Rattle.arz_top.specs.Endings.{Faulted, Plays, FromBundle, Mocks, Stands, Checks}
 use Rattle.arz_top.specs.Laws.{OneEnding}
-use Rattle.arz_top.specs.Steady.{IsSteady, ArePatternsSteady}
+use Rattle.arz_top.specs.Steady.{IsSteady, ArePatternsSteady, ListsOverlay}
 use Rattle.arz_top.proofs.Fronts.{one_front, one_end}
 use Rattle.arz_top.proofs.Once.{loads-one, replies-one}
 
@@ -70,7 +70,7 @@ plays_one b (Err fault) e e' p q = faulted_one fault e e' p q
 plays_some : (b : Bundle) (given : Result (List Reply) LoadFault) (e : Ending) → Plays b given e → given ≢ Err Memory
 plays_some b given e plays is = subst (λ g. Plays b g e) is plays
 
-module _ (before now : FilesView) (old new : PatternsView) (steady : IsSteady before now) (sure : ArePatternsSteady old new) (replies : List ℕ) where
+module _ (before now : FilesView) (old new : PatternsView) (steady : IsSteady before now) (replies : List ℕ) where
   bundle_one : (loaded : Result Bundle LoadFault) (e e' : Ending) → FromBundle before now old new replies loaded e → FromBundle before now old new replies loaded e' → e ≡ e'
   bundle_one (Ok bundle) e e' (given, gives, plays) (given', gives', plays') =
       let same : given' ≡ given = replies-one before now steady replies given' given (plays_some bundle given' e' plays') (plays_some bundle given e plays) gives' gives in
@@ -80,9 +80,9 @@ module _ (before now : FilesView) (old new : PatternsView) (steady : IsSteady be
   bundle_some : (loaded : Result Bundle LoadFault) (e : Ending) → FromBundle before now old new replies loaded e → loaded ≢ Err Memory
   bundle_some loaded e came is = subst (λ l. FromBundle before now old new replies l e) is came
 
-  mocks_one : (setup : List ℕ) (e e' : Ending) → Mocks before now old new replies setup e → Mocks before now old new replies setup e' → e ≡ e'
-  mocks_one setup e e' (loaded, loads, came) (loaded', loads', came') =
-      let same : loaded' ≡ loaded = loads-one before now old new steady sure setup loaded' loaded (bundle_some loaded' e' came') (bundle_some loaded e came) loads' loads in
+  mocks_one : (setup : List ℕ) → (ListsOverlay before setup → ArePatternsSteady before old new) → (e e' : Ending) → Mocks before now old new replies setup e → Mocks before now old new replies setup e' → e ≡ e'
+  mocks_one setup sure e e' (loaded, loads, came) (loaded', loads', came') =
+      let same : loaded' ≡ loaded = loads-one before now old new steady setup sure loaded' loaded (bundle_some loaded' e' came') (bundle_some loaded e came) loads' loads in
       bundle_one loaded e e' came (subst (λ l. FromBundle before now old new replies l e') same came')
 
 stands_one : (loaded : Result Bundle LoadFault) (e e' : Ending) → Stands loaded e → Stands loaded e' → e ≡ e'
@@ -92,12 +92,12 @@ stands_one (Err fault) e e' p q = faulted_one fault e e' p q
 stands_some : (loaded : Result Bundle LoadFault) (e : Ending) → Stands loaded e → loaded ≢ Err Memory
 stands_some loaded e came is = subst (λ l. Stands l e) is came
 
-checks_one : (before now : FilesView) (old new : PatternsView) → IsSteady before now → ArePatternsSteady old new → (setup : List ℕ) (e e' : Ending) → Checks before now old new setup e → Checks before now old new setup e' → e ≡ e'
-checks_one before now old new steady sure setup e e' (loaded, loads, came) (loaded', loads', came') =
-    let same : loaded' ≡ loaded = loads-one before now old new steady sure setup loaded' loaded (stands_some loaded' e' came') (stands_some loaded e came) loads' loads in
+checks_one : (before now : FilesView) (old new : PatternsView) → IsSteady before now → (setup : List ℕ) → (ListsOverlay before setup → ArePatternsSteady before old new) → (e e' : Ending) → Checks before now old new setup e → Checks before now old new setup e' → e ≡ e'
+checks_one before now old new steady setup sure e e' (loaded, loads, came) (loaded', loads', came') =
+    let same : loaded' ≡ loaded = loads-one before now old new steady setup sure loaded' loaded (stands_some loaded' e' came') (stands_some loaded e came) loads' loads in
     stands_one loaded e e' came (subst (λ l. Stands l e') same came')
 
 pub one_ending : OneEnding
 one_ending before now old new Unknown e e' steady sure p q = p ∙ sym q
-one_ending before now old new (Check setup) e e' steady sure p q = checks_one before now old new steady sure setup e e' p q
-one_ending before now old new (Mock setup replies) e e' steady sure p q = mocks_one before now old new steady sure replies setup e e' p q
+one_ending before now old new (Check setup) e e' steady sure p q = checks_one before now old new steady setup sure e e' p q
+one_ending before now old new (Mock setup replies) e e' steady sure p q = mocks_one before now old new steady replies setup sure e e' p q

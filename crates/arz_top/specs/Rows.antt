@@ -18,7 +18,7 @@ use Rattle.arz_top.specs.declared.ending.Ending.TheVariants.{Refused, Played}
 use Rattle.arz_top.specs.Endings.{Comes}
 use Rattle.arz_top.specs.Exact.{Exact}
 use Rattle.arz_top.specs.Report.{line, report, status, refusal_line}
-use Rattle.arz_top.specs.Steady.{IsSteady, ArePatternsSteady}
+use Rattle.arz_top.specs.Steady.{IsSteady, ArePatternsSteady, HasOverlay}
 
 -- what the files, the patterns and the sink show at the beginning of a call and at its end
 pub record Rows (files files_now : FilesView) (patterns patterns_now : PatternsView) (command : Command) (sink sink_now : SinkView) (answer : ℕ) : Type 0 where
@@ -48,5 +48,5 @@ pub record Rows (files files_now : FilesView) (patterns patterns_now : PatternsV
   pub whole : answer ≢ 10 → answer ≢ 11 → (ending : Ending) × Comes files files_now patterns patterns_now command ending × (answer ≡ status ending) × Gains sink.held sink_now.held (λ added. added ≡ report ending)
   -- where the sink didn't fail, only want of memory keeps the report away
   pub succeeds : (Rose sink.faults sink_now.faults → ⊥) → answer ≢ 11 → (ending : Ending) × Comes files files_now patterns patterns_now command ending × (answer ≡ status ending)
-  -- over files that tell what they hold and patterns that tell all, where no read of a file that is there failed, nor the sink, no pattern was too big, and memory sufficed, each answer stands exactly where the words come to its ending
-  pub exact : IsSteady files files_now → ArePatternsSteady patterns patterns_now → (Rose sink.faults sink_now.faults → ⊥) → answer ≢ 11 → Exact (Comes files files_now patterns patterns_now command) answer
+  -- over files that tell what they hold, where no read of a file that is there failed, nor the sink, and memory sufficed, each answer stands exactly where the words come to its ending; where the setup lists an overlay, this asks for patterns that tell what overlays ask of them, of which none was too big
+  pub exact : IsSteady files files_now → (HasOverlay files command → ArePatternsSteady files patterns patterns_now) → (Rose sink.faults sink_now.faults → ⊥) → answer ≢ 11 → Exact (Comes files files_now patterns patterns_now command) answer

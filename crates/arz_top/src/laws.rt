@@ -1,10 +1,16 @@
 //! The laws of endings, which hold of all files and words. None of them has code.
-ghost use Rattle.arz_top.specs.Laws.{OneEnding, EndingOrRun};
+ghost use Rattle.arz_top.specs.Laws.{OneEnding, TellingAll, EndingOrRun};
 
-/// Over files that tell what they hold, and of which a read failed only where no file is there, and
-/// patterns that tell all, of which none was too big, the words come to no two endings.
+/// Over files that tell what they hold, and of which a read failed only where no file is there, the words come
+/// to no two endings; where the setup lists an overlay, this asks for patterns that tell what overlays ask of
+/// them, of which none was too big.
 pub fn one_ending()
     ensures { OneEnding }
+{}
+
+/// Patterns that tell all, and of which none was too big, tell what overlays ask of them, whatever the files hold.
+pub fn patterns_that_tell_all()
+    ensures { TellingAll }
 {}
 
 /// Over files where each read of a path without a file fails, the words come to an ending, or they are
