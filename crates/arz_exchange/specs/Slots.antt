@@ -6,7 +6,7 @@ use Rattle.arz_world.specs.declared.messages.Request.{Request}
 use Rattle.arz_world.specs.declared.messages.Reply.{Reply}
 use Rattle.arz_http.specs.Messages.{Message}
 use Rattle.arz_http.specs.Readings.{ReplyReading, taking, whole, is_closed}
-use Rattle.arz_http.specs.Requests.{request_bytes}
+use Rattle.arz_world.specs.Requests.{request_bytes}
 
 pub record SlotView : Type 0 where
   -- the bytes to send

@@ -1,28 +1,6 @@
--- The bytes of a request (RFC 9112, 2.1 and 3).
-use Rattle.std.specs.Prelude.{ℕ, List, [], ◌∷◌, ◌++◌, codes, Option, Some, None}
-use Rattle.std.specs.List.{flat_map}
-use Rattle.arz_world.specs.declared.Header.{Header}
-use Rattle.arz_world.specs.declared.Request.{Request}
-
--- CR LF
-abbrev pub line_end : List ℕ
-line_end = 13 ∷ 10 ∷ []
-
--- METHOD TARGET HTTP/1.1
-abbrev pub request_line : Request → List ℕ
-request_line q = q.method ++ codes " " ++ q.target ++ codes " HTTP/1.1" ++ line_end
-
--- NAME: VALUE
-abbrev pub header_line : Header → List ℕ
-header_line h = h.name ++ codes ": " ++ h.value ++ line_end
-
-abbrev pub body_of : Option (List ℕ) → List ℕ
-body_of None = []
-body_of (Some body) = body
-
--- the lines, the empty line and the body
-abbrev pub request_bytes : Request → List ℕ
-request_bytes q = request_line q ++ flat_map header_line q.headers ++ line_end ++ body_of q.body
+-- How large a request may be.
+use Rattle.std.specs.Prelude.{ℕ}
+pub use Rattle.arz_world.specs.Requests.{line_end, request_line, header_line, body_of, request_bytes}
 
 -- how many bytes a request may have
 abbrev pub request_limit : ℕ

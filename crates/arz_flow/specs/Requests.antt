@@ -2,13 +2,13 @@
 use Rattle.std.specs.Prelude.{ℕ, ◌==◌, nat_le, List, [], ◌∷◌, ◌++◌, map, find, length, codes, if◌then◌else◌, None, unwrap_or}
 use Rattle.std.specs.List.{flat_map}
 use Rattle.std.specs.Option.{option_map_or}
-use Rattle.std.specs.Fmt.{decimal}
 use Rattle.std.specs.Str.{bytes_eq, str_to_ascii_uppercase}
 use Rattle.std.specs.declared.option.Option.{Option}
 use Rattle.std.specs.declared.result.Result.TheVariants.{Ok, Err}
 use Rattle.arz_json.specs.Answer.{◌>>=◌}
 use Rattle.arz_json.specs.declared.Json.{Json}
 use Rattle.arz_json.specs.declared.Location.TheVariants.{Path}
+pub use Rattle.arz_world.specs.Requests.{port_suffix, authority}
 use Rattle.arz_world.specs.declared.Server.{Server}
 use Rattle.arz_world.specs.declared.Header.{Header}
 use Rattle.arz_world.specs.declared.Sent.{Sent}
@@ -60,13 +60,6 @@ expanded gs path = flat_map (expanded_part gs) (parts path)
 
 abbrev pub no_server : Server
 no_server = record { host = []; port = 80; base = [] }
-
-abbrev pub port_suffix : ℕ → List ℕ
-port_suffix port = if port == 80 then [] else codes ":" ++ decimal port
-
--- the value of the Host line
-abbrev pub authority : Server → List ℕ
-authority server = server.host ++ port_suffix server.port
 
 abbrev pub header : List ℕ → List ℕ → Header
 header name value = record { name = name; value = value }

@@ -8,6 +8,7 @@ use Rattle.arz_json.specs.declared.Json.TheVariants.{Int, Text}
 use Rattle.arz_json.specs.declared.Location.{Location}
 use Rattle.arz_json.specs.declared.Location.TheVariants as place
 use Rattle.arz_json.specs.declared.Member.{Member}
+use Rattle.arz_world.specs.Requests.{authority}
 use Rattle.arz_world.specs.declared.Reply.{Reply}
 use Rattle.arz_world.specs.declared.Request.{Request}
 use Rattle.arz_world.specs.declared.Sent.{Sent}
@@ -17,7 +18,6 @@ use Rattle.arz_flow.specs.declared.facts.Fact.{Fact}
 use Rattle.arz_flow.specs.Bodies.{header_field, body_value}
 use Rattle.arz_flow.specs.Documents.{text_at, items_at}
 use Rattle.arz_flow.specs.Play.{Completion}
-use Rattle.arz_flow.specs.Requests.{authority}
 
 -- what an attempt may speak of: its own request and reply, where it has them
 pub data Attempt : Type 0 where

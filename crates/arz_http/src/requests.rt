@@ -1,7 +1,7 @@
 // The bytes of a request.
 ghost use Rattle.std.specs.Prelude.{◌≡◌, ◌++◌, ◌∷◌, [], IfOk, OnOk, codes};
 ghost use Rattle.std.specs.List.{flat_map};
-ghost use Rattle.arz_http.specs.Requests.{request_bytes, request_line, header_line, line_end, body_of};
+ghost use Rattle.arz_world.specs.Requests.{request_bytes, request_line, header_line, line_end, body_of};
 
 use arz_json::{Bytes, Text};
 use arz_world::{Header, Request};

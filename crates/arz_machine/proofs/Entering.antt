@@ -22,10 +22,10 @@ use Rattle.arz_flow.specs.Requests.{request_by}
 use Rattle.arz_flow.specs.Scopes.{Nothing, Exchange, found}
 use Rattle.arz_flow.proofs.Within.{step-within}
 use Rattle.arz_json.specs.Answer.{Fails}
-use Rattle.arz_request.specs.Builds.{told}
-use Rattle.arz_request.specs.Operations.{operation_in}
-use Rattle.arz_request.specs.declared.faults.BuildFault.{BuildFault}
-use Rattle.arz_request.specs.declared.faults.BuildFault.TheVariants.{Stuck as StuckFault}
+use Rattle.arz_first_request.specs.Builds.{told}
+use Rattle.arz_first_request.specs.Operations.{operation_in}
+use Rattle.arz_first_request.specs.declared.faults.BuildFault.{BuildFault}
+use Rattle.arz_first_request.specs.declared.faults.BuildFault.TheVariants.{Stuck as StuckFault}
 use Rattle.arz_scope.specs.Speaking.{Speaking, run_of as spoken_run, attempt_of}
 use Rattle.arz_machine.specs.Spoken.{spoken}
 use Rattle.arz_machine.specs.States.{Sends, Ended, run_of, is_spent, rest_by, entered, next_fact}

@@ -4,9 +4,9 @@ ghost use Rattle.arz_flow.specs.Documents.{steps_of};
 ghost use Rattle.arz_flow.specs.Shallow.{HaveShallow};
 ghost use Rattle.arz_flow.specs.Valid.{IsValid};
 
+use arz_first_request::Operations;
 use arz_flow::{Bundle, Fact};
 use arz_json::{Json, Many};
-use arz_request::Operations;
 use std::alloc::Global;
 
 /// A run of a bundle's starting workflow, with the facts of its attempts so far.

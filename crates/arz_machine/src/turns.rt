@@ -13,9 +13,9 @@ ghost use Rattle.arz_machine.specs.States.{has_step, run_of, is_spent, entered, 
 
 use crate::run::Run;
 use crate::state::{Ready, State};
+use arz_first_request::{BuildFault, Operations, request, steps, workflow};
 use arz_flow::{Bundle, Cause, End, Fact, Spot, text_at};
 use arz_json::{Json, Many, Members, Text};
-use arz_request::{BuildFault, Operations, request, steps, workflow};
 use arz_scope::{Exchange, RunScope, any_opaque, outputs};
 use arz_world::Reply;
 use std::alloc::{AllocError, Global};

@@ -4,14 +4,14 @@ ghost use Rattle.std.specs.List.{list_all};
 ghost use Rattle.arz_json.specs.Tree.{has_form};
 ghost use Rattle.arz_flow.specs.Parameters.{parameter_of};
 ghost use Rattle.arz_flow.specs.Paths.{parts};
-ghost use Rattle.arz_request.specs.Cut.{parts_to};
+ghost use Rattle.arz_first_request.specs.Cut.{parts_to};
 ghost use Rattle.arz_bundle.specs.Forms.{is_given};
 ghost use Rattle.arz_bundle.specs.FormWords.{is_path_byte as path_byte};
 
 use crate::components::is_named;
 use crate::forms::words::is_plain_byte;
+use arz_first_request::{Cut, next_cut};
 use arz_json::Json;
-use arz_request::{Cut, next_cut};
 
 /// Whether each `{name}` of the path is the name of one of these parameters of a step, and each other byte is `/` or one of
 /// `A-Z a-z 0-9 - . _ ~`.

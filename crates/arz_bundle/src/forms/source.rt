@@ -7,8 +7,8 @@ ghost use Rattle.arz_bundle.specs.FormWords.{is_in, is_object_of, is_list_of_one
 use crate::forms::called::Operations;
 use crate::forms::texts::{is_short, short_text};
 use crate::forms::words::{has_each, is_info, sole_item};
+use arz_first_request::authority_of;
 use arz_json::{Json, Member};
-use arz_request::authority_of;
 use arz_rules::is_version;
 use std::alloc::{AllocError, Global};
 

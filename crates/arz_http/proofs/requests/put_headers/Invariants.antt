@@ -1,6 +1,6 @@
 use Rattle.std.proofs.Common.{◌≡◌, ◌++◌, drop}
 use Rattle.std.specs.List.{flat_map}
-use Rattle.arz_http.specs.Requests.{header_line}
+use Rattle.arz_world.specs.Requests.{header_line}
 use Rattle.arz_http.proofs.requests.put_headers.Given as goal
 
 abbrev pub invariant-loop-header : goal.invariant-loop-header

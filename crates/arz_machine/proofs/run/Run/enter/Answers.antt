@@ -1,6 +1,6 @@
 use Rattle.std.proofs.Common.{◌∙◌, arith}
 use Rattle.arz_json.proofs.Parts.{IsWithin-more}
-use Rattle.arz_request.specs.Operations.{seen}
+use Rattle.arz_first_request.specs.Operations.{seen}
 use Rattle.arz_machine.proofs.Entering.{step_shallow, the_step, enters_as, sent_by, spent_by, stuck_at, stuck_by}
 use Rattle.arz_machine.proofs.run.Run.enter.Goals as goal
 
