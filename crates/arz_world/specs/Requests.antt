@@ -2,9 +2,9 @@
 use Rattle.std.specs.Prelude.{ℕ, ◌==◌, List, [], ◌∷◌, ◌++◌, codes, if◌then◌else◌, Option, Some, None}
 use Rattle.std.specs.List.{flat_map}
 use Rattle.std.specs.Fmt.{decimal}
-use Rattle.arz_world.specs.declared.Header.{Header}
-use Rattle.arz_world.specs.declared.Request.{Request}
-use Rattle.arz_world.specs.declared.Server.{Server}
+use Rattle.arz_world.specs.declared.messages.Header.{Header}
+use Rattle.arz_world.specs.declared.messages.Request.{Request}
+use Rattle.arz_world.specs.declared.messages.Server.{Server}
 
 -- CR LF
 abbrev pub line_end : List ℕ
