@@ -3,17 +3,8 @@
 #![tactic(auto)]
 
 mod call;
-mod expressions;
-mod messages;
-mod outside;
-mod overlays;
-mod paths;
-mod patterns;
-mod queries;
-mod requests;
 mod table;
 mod top;
-mod trees;
 
 use std::process::ExitCode;
 use std::{env, io};

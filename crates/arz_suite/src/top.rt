@@ -1,7 +1,7 @@
 // The top call.
-use crate::outside::{files_of, sink_of};
-use crate::patterns::patterns_of;
 use arz_cases::{Case, CaseFault, Outcome};
+use arz_query_calls::patterns_of;
+use arz_run_calls::{files_of, sink_of};
 use arz_top::run_words;
 use std::alloc::Global;
 

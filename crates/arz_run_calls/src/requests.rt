@@ -1,8 +1,8 @@
 // The request of a step.
-use crate::expressions::scope_of;
 use arz_cases::{Case, CaseFault, Outcome};
 use arz_first_request::{BuildFault, OperationAt, request as request_of};
 use arz_flow::Cause;
+use arz_tree_calls::scope_of;
 use std::alloc::Global;
 
 /// The request of the step `step` of the description `description` at an operation under `path`, where

@@ -1,6 +1,6 @@
 use Rattle.std.proofs.Common.{All}
 use Rattle.arz_flow.specs.Shallow.{IsShallow}
-use Rattle.arz_suite.proofs.messages.sent_values.Given as goal
+use Rattle.arz_run_calls.proofs.messages.sent_values.Given as goal
 
 abbrev pub invariant-loop-value : goal.invariant-loop-value
 invariant-loop-value l = All (λ s. IsShallow s.value) l.values.items

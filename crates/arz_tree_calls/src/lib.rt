@@ -1,0 +1,9 @@
+//! Calls of the libraries of trees and of expressions, over what cases describe. [`TreeCall`] lists them.
+#![tactic(auto)]
+
+mod calls;
+mod expressions;
+mod trees;
+
+pub use calls::TreeCall;
+pub use expressions::{Whole, scope_of};
