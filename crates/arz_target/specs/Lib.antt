@@ -1,0 +1,4 @@
+pub mod Cut
+pub mod Seen
+pub mod Templates
+pub mod Urls
