@@ -1,5 +1,5 @@
 // A value in a style.
-ghost use Rattle.std.specs.Prelude.{◌≡◌, IfOk, not};
+ghost use Rattle.std.specs.Prelude.{◌≡◌, IfOk, IsUtf8, not};
 ghost use Rattle.std.specs.List.{list_any};
 ghost use Rattle.arz_json.specs.Answer.{Gives};
 ghost use Rattle.arz_style.specs.Texts.{told, is_null as null, text_of};
@@ -35,7 +35,8 @@ fn between(style: Style) -> &'static str
 }
 
 fn lay(alloc: Global, style: Style, labels: &[Text]) -> Result<Bytes, AllocError>
-    ensures { IfOk result (λ b. b ≡ laid style labels.now) }
+    ensures bytes { IfOk result (λ b. b ≡ laid style labels.now) }
+    ensures text { IfOk result IsUtf8 }
 {
     let mut out = String::new(alloc);
     if !labels.is_empty() {
@@ -155,7 +156,8 @@ fn labels(
 /// A parameter's value in a style (OpenAPI 3.1.1, section 4.8.12.6; RFC 6570, section 3.2). With `explode`
 /// each item of a list and each member of an object stands by itself. With `escape` each byte of names and
 /// values that isn't unreserved (RFC 3986, section 2.3) is percent-encoded; without it they stand as they
-/// are. Nulls are left out; a null alone, and a list or an object with nothing left in it, gives no bytes.
+/// are. Nulls are left out; a null alone, and a list or an object with nothing left in it, gives no bytes. The bytes
+/// are UTF-8.
 ///
 /// Errors: `NotSerializable` where the style has no text for such a value, as the table says, or where a
 /// list or an object stands inside the value; `FractionUsed` where a number without its value would be
@@ -168,7 +170,8 @@ pub fn expand(
     name: &str,
     value: &Json,
 ) -> Result<Bytes, StyleFault>
-    ensures { Gives (λ b. b) told result (expanded style explode escape name.now value.now) }
+    ensures expanded { Gives (λ b. b) told result (expanded style explode escape name.now value.now) }
+    ensures text { IfOk result IsUtf8 }
 {
     let name = spell(alloc, escape, name)?;
     let labels = labels(alloc, style, explode, escape, name.as_str(), value)?;
