@@ -1,5 +1,5 @@
 -- Why nothing is found, carried to the callers.
-use Rattle.std.proofs.Common.{◌≡◌, ℕ, ◌≤◌, List, Bool, true, false, Option, Result, Ok, Err, length, nat_lt, cond, refl, sym, ap, subst, ◌∙◌, arith}
+use Rattle.std.proofs.Common.{◌≡◌, ℕ, ◌≤◌, List, ◌++◌, Bool, true, false, Option, Result, Ok, Err, length, nat_lt, cond, refl, sym, ap, subst, ◌∙◌, arith}
 use Rattle.std.specs.Result.{IsErrAnd}
 use Rattle.arz_json.specs.declared.tree.Json.{Json}
 use Rattle.arz_rx.specs.Patterns.{PatternsView, Rose, Told}
@@ -7,11 +7,11 @@ use Rattle.arz_query.specs.declared.query.Operand.{Operand}
 use Rattle.arz_path.specs.declared.fault.SelectFault.{SelectFault}
 use Rattle.arz_path.specs.declared.fault.SelectFault.TheVariants as fault
 use Rattle.arz_path.specs.Outcome.{Outcome, given, wide, and_then, outcome_map, Covers}
-use Rattle.arz_path.specs.Tree.{Node}
-use Rattle.arz_json.specs.Answer.{Fails as Meant}
-use Rattle.arz_path.specs.Selected.{Setting, widest, bounded, told_of, limited, operand_meaning, pair_of}
+use Rattle.arz_json.specs.Answer.{Gives, Fails as Meant}
+use Rattle.arz_path.specs.Selected.{Setting, widest, told_of, operand_meaning, pair_of}
+use Rattle.arz_path.specs.Spots.{within, narrow, grown}
 use Rattle.arz_path.specs.Results.{Asked, cause, Fails, Answers, bit_seen, setting_of}
-use Rattle.arz_path.proofs.Outcomes.{covers_trans, through, through_map, stops_map}
+use Rattle.arz_path.proofs.Outcomes.{covers_equal, covers_trans, through, through_map, stops_map}
 
 pub asked_same : (p : PatternsView) → Asked p p
 asked_same p = record { told = refl; count = omega arith }
@@ -44,15 +44,21 @@ pub fails_map : {Y Z : Type 0} (e : SelectFault) (f : Z → Y) (part : Outcome Z
 fails_map e f part whole p q is h = fails_as e part whole p q (λ k. subst (λ o. Covers o wide) (sym is) (stops_map f part k)) h
 
 -- from lists that grow, where no pattern is asked
-pub fails_grows : {Y : Type 0} (e : SelectFault) (ns : List Node) (whole : Outcome Y) (p q : PatternsView) →
-    (limited ns ≡ wide → Covers whole wide) → Meant (cause e) (bounded ns) → Fails e whole p q
-fails_grows fault.TooWide ns whole p q f h = f (ap told_of h)
-fails_grows fault.Pattern ns whole p q f h = of (nat_lt widest (length ns)) h
+pub fails_grows : {X Y : Type 0} (e : SelectFault) (xs : List X) (whole : Outcome Y) (p q : PatternsView) →
+    (narrow xs ≡ wide → Covers whole wide) → Meant (cause e) (within xs) → Fails e whole p q
+fails_grows fault.TooWide xs whole p q f h = f (ap told_of h)
+fails_grows {X = X} fault.Pattern xs whole p q f h = of (nat_lt widest (length xs)) h
   where
-    of : (b : Bool) → cond b (Err fault.TooWide) (Ok ns) ≡ Err fault.Pattern → Fails fault.Pattern whole p q
+    of : (b : Bool) → cond b (Err fault.TooWide) (Ok xs) ≡ Err fault.Pattern → Fails fault.Pattern whole p q
     of true h = absurd (cc)
     of false h = absurd (cc)
-fails_grows fault.Memory ns whole p q f h = tt
+fails_grows fault.Memory xs whole p q f h = tt
+
+-- what is given is added, if that isn't too wide
+pub grown_given : {X : Type 0} (r : Result Unit SelectFault) (old ys new : List X) (meant : Outcome (List X)) (p q : PatternsView) →
+    meant ≡ given ys → Gives (λ _. new) cause r (within (old ++ ys)) → Answers (λ _. new) r (grown old meant) p q
+grown_given (Ok u) old ys new meant p q e h = covers_equal _ _ (ap (grown old) e ∙ ap told_of h)
+grown_given (Err f) old ys new meant p q e h = fails_grows f (old ++ ys) (grown old meant) p q (λ k. covers_equal _ _ (ap (grown old) e ∙ k)) h
 
 -- what the exit of a `?` answers
 pub exit : {X Y : Type 0} (view : X → Y) (r : Result X SelectFault) (e : SelectFault) (meant : Outcome Y) (p q : PatternsView) →

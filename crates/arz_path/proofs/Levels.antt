@@ -1,5 +1,5 @@
 -- What is below a tree, a level at a time.
-use Rattle.std.proofs.Common.{◌≡◌, ℕ, ℤ, ◌+◌, List, [], ◌∷◌, ◌++◌, map, refl, sym, ap, subst, ap₂, ◌∙◌, append_assoc, append-nil}
+use Rattle.std.proofs.Common.{◌≡◌, ℕ, ℤ, ◌+◌, List, [], ◌∷◌, ◌++◌, map, Option, Some, None, refl, sym, ap, subst, ap₂, ◌∙◌, append_assoc, append-nil}
 use Rattle.std.proofs.lemmas.List.{map-append}
 use Rattle.std.specs.List.{enumerate_from, flat_map}
 use Rattle.arz_json.specs.declared.tree.Json.{Json}
@@ -11,10 +11,11 @@ use Rattle.arz_json.specs.declared.tree.Member.{Member}
 use Rattle.arz_json.specs.declared.place.Token.{Token}
 use Rattle.arz_json.specs.declared.place.Token.TheVariants.{Name, Index}
 use Rattle.arz_json.specs.declared.tree.Json.TheVariants.{Int, rolls-Int}
-use Rattle.std.specs.Prelude.{filter}
+use Rattle.std.specs.Prelude.{filter, option_map}
 use Rattle.arz_path.specs.Tree.{Node, preorder, under, below, below_step, named_child, with_child, items_in, members_in, items_of, members_of, item_child, member_child, children}
 use Rattle.arz_path.specs.Selected.{is_name}
-use Rattle.arz_path.specs.Seen.{item_nodes, member_nodes}
+use Rattle.arz_path.specs.Spots.{Spot, placed as placed_at, further, down, down_all}
+use Rattle.arz_path.specs.Seen.{item_nodes, member_nodes, ahead}
 
 pub below-List : (js : List Json) → below (ListOf js) ≡ below_step (Json-F.List (map (λ j. (j, below j)) js))
 below-List js = ap below (sym (rolls-List js)) ∙ para-roll-Json (List Node) (List ℕ × (Json × List Node)) below_step named_child (Json-F.List js)
@@ -124,3 +125,69 @@ no_names k i (x ∷ js) rest = no_names k (i + 1) js rest
 
 pub named_children : (k : List ℕ) (j : Json) → filter (λ c. is_name k c.0) (children j) ≡ filter (λ c. is_name k c.0) (map member_child (members_of j))
 named_children k j = no_names k 0 (items_of j) (map member_child (members_of j))
+
+-- ---- a node and all below it, child by child
+
+abbrev child_nodes : Token × Json → List Node
+child_nodes c = with_child c.0 (c.1, below c.1)
+
+items_children : (i : ℕ) (js : List Json) →
+    flat_map (λ (q : ℕ × (Json × List Node)). with_child (Index q.0) q.1) (enumerate_from i (map (λ j. (j, below j)) js)) ≡ flat_map child_nodes (map item_child (enumerate_from i js))
+items_children i [] = refl
+items_children i (j ∷ js) = ap (λ more. with_child (Index i) (j, below j) ++ more) (items_children (i + 1) js)
+
+members_children : (ms : List Member) → flat_map (λ m. with_child (Name m.name) (m.value, below m.value)) ms ≡ flat_map child_nodes (map member_child ms)
+members_children [] = refl
+members_children (m ∷ ms) = ap (λ more. with_child (Name m.name) (m.value, below m.value) ++ more) (members_children ms)
+
+level_children : (d : Json-F Json Member) → level d ≡ flat_map child_nodes (map item_child (enumerate_from 0 (items_in d)) ++ map member_child (members_in d))
+unfolding level para_member
+level_children (Json-F.List js) = items_children 0 js ∙ ap (flat_map child_nodes) (sym (append-nil (map item_child (enumerate_from 0 js))))
+level_children (Json-F.Object ms) = at_members ms ∙ members_children ms
+level_children Json-F.Null = refl
+level_children (Json-F.Flag b) = refl
+level_children (Json-F.Int z) = refl
+level_children (Json-F.Text s) = refl
+level_children Json-F.Opaque = refl
+
+below_level : (d : Json-F Json Member) → below (roll-Json d) ≡ flat_map child_nodes (children (roll-Json d))
+unfolding level para_member
+below_level d = para-roll-Json (List Node) (List ℕ × (Json × List Node)) below_step named_child d ∙ level_children d
+    ∙ ap (λ (o : Json-F Json Member). flat_map child_nodes (map item_child (enumerate_from 0 (items_in o)) ++ map member_child (members_in o))) (sym (out-roll-Json d))
+
+below_children : (j : Json) → below j ≡ flat_map child_nodes (children j)
+below_children j = each_level (λ j. below j ≡ flat_map child_nodes (children j)) below_level j
+
+under_placed : (p : Option (List Token)) (t : Token) (ns : List Node) → map (placed_at p) (under t ns) ≡ map (placed_at (further p t)) ns
+under_placed p t [] = refl
+under_placed None t (n ∷ ns) = ap (λ (more : List Spot). (None, n.1) ∷ more) (under_placed None t ns)
+under_placed (Some q) t (n ∷ ns) = ap₂ (λ (r : List Token) (more : List Spot). (Some r, n.1) ∷ more) (sym (append_assoc q (t ∷ []) n.0)) (under_placed (Some q) t ns)
+
+child_down : (p : Option (List Token)) (c : Token × Json) → map (placed_at p) (child_nodes c) ≡ down (further p c.0, c.1)
+unfolding down
+child_down p c = ap (λ (more : List Spot). (further p c.0, c.1) ∷ more) (under_placed p c.0 (below c.1))
+
+children_down : (p : Option (List Token)) (cs : List (Token × Json)) → map (placed_at p) (flat_map child_nodes cs) ≡ down_all p cs
+children_down p [] = refl
+children_down p (c ∷ cs) = map-append (placed_at p) (child_nodes c) (flat_map child_nodes cs) ∙ ap₂ (λ (xs ys : List Spot). xs ++ ys) (child_down p c) (children_down p cs)
+
+down_placed : (s : Spot) → down s ≡ s ∷ map (placed_at s.0) (below s.1)
+unfolding down
+down_placed s = refl
+
+pub down_children : (s : Spot) → down s ≡ s ∷ down_all s.0 (children s.1)
+down_children s = down_placed s ∙ ap (λ (more : List Spot). s ∷ more) (ap (map (placed_at s.0)) (below_children s.1) ∙ children_down s.0 (children s.1))
+
+rest_placed : (p : Option (List Token)) (q : List Token) (ds : List Node) →
+    map (placed_at p) (map (λ d. (q ++ d.0, d.1)) ds) ≡ map (placed_at (option_map (λ r. r ++ q) p)) ds
+rest_placed p q [] = refl
+rest_placed None q (d ∷ ds) = ap (λ (more : List Spot). (None, d.1) ∷ more) (rest_placed None q ds)
+rest_placed (Some r) q (d ∷ ds) = ap₂ (λ (t : List Token) (more : List Spot). (Some t, d.1) ∷ more) (sym (append_assoc r q d.0)) (rest_placed (Some r) q ds)
+
+pub preorder_down : (p : Option (List Token)) (n : Node) → map (placed_at p) (preorder n) ≡ down (placed_at p n)
+unfolding down
+preorder_down p n = ap (λ (more : List Spot). placed_at p n ∷ more) (rest_placed p n.0 (below n.1))
+
+-- the node where a walk stands comes first
+pub ahead_first : (w : Spot × List Spot) → ahead w ≡ w.0 ∷ (down_all w.0.0 (children w.0.1) ++ w.1)
+ahead_first w = ap (λ (ss : List Spot). ss ++ w.1) (down_children w.0)

@@ -7,6 +7,8 @@ pub mod Slices
 pub mod Levels
 pub mod Equality
 pub mod Parts
+pub mod Bridge
+pub mod Walks
 pub mod Steps
 pub mod SelectedPlaces
 pub mod Told

@@ -1,7 +1,7 @@
 -- Outcomes that say what another is, or nothing.
 use Rattle.std.proofs.Common.{◌≡◌, List, [], ◌∷◌, ◌++◌, refl, sym, ap, subst, append_assoc, append-nil}
 use Rattle.arz_path.specs.Outcome.{Outcome, given, wide, untold, and_then, outcome_map, each, Covers}
-use Rattle.arz_path.specs.Seen.{joined}
+use Rattle.arz_path.specs.Spots.{joined}
 
 pub covers_same : {X : Type 0} (o : Outcome X) → Covers o o
 covers_same (given x) = refl

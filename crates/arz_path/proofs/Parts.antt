@@ -15,7 +15,8 @@ use Rattle.arz_query.specs.declared.query.Operand.TheVariants.{Query as QueryOf,
 use Rattle.arz_path.specs.Outcome.{Outcome, given, wide, untold, and_then, outcome_map, each, parts}
 use Rattle.arz_path.specs.Tree.{Node, children, members_of, member_child, preorder}
 use Rattle.arz_path.specs.Selected.{places, is_any, place_of, selected, Setting, SelectorMeaning, TestMeaning, limited, below_node, is_name, is_some_node, only, count_of, started, segment_meaning, selector_meaning, test_meaning, operand_meaning}
-use Rattle.arz_path.specs.Seen.{grown, chosen, chosen_all, picked, kept_all, tested_all, run_all, found_all, found_in}
+use Rattle.arz_path.specs.Spots.{grown}
+use Rattle.arz_path.specs.Seen.{chosen, chosen_all, picked, kept_all, tested_all, run_all, found_all, found_in}
 use Rattle.arz_path.proofs.Levels.{named_children}
 use Rattle.arz_path.proofs.Meanings.{meaning-Child, meaning-Descendant, meaning-Name, meaning-Filter, meaning-Any, meaning-All, meaning-Exists, meaning-Query, meaning-Count, meaning-Value}
 

@@ -36,7 +36,8 @@ use Rattle.arz_path.specs.Tree.{Node, items_in, items_of, members_in, members_of
 use Rattle.arz_path.specs.declared.fault.SelectFault.TheVariants.{TooWide}
 use Rattle.arz_path.specs.Selected.{Setting, widest, told_of, kept, below_node, is_name, index_in, indexed_at, is_taken, in_direction, sliced, run, selected, segment_meaning, selector_meaning, test_meaning}
 use Rattle.arz_path.specs.Results.{setting_of}
-use Rattle.arz_path.specs.Seen.{item_nodes, member_nodes, picked, chosen, chosen_all, grown, kept_all}
+use Rattle.arz_path.specs.Spots.{grown}
+use Rattle.arz_path.specs.Seen.{item_nodes, member_nodes, picked, chosen, chosen_all, kept_all}
 use Rattle.arz_path.specs.Finding.{child_at, found_at, IsFound, Every, EachGiven}
 use Rattle.arz_path.proofs.Levels.{preorder_nodes, preorder-List, preorder-Object}
 use Rattle.arz_path.proofs.Meanings.{meaning-Name, meaning-Wildcard, meaning-Index, meaning-Slice}

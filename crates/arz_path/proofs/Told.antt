@@ -19,7 +19,8 @@ use Rattle.arz_path.specs.Tree.{Node, children, preorder}
 use Rattle.arz_path.specs.Values.{length_of}
 use Rattle.arz_path.specs.declared.fault.SelectFault.TheVariants.{TooWide}
 use Rattle.arz_path.specs.Selected.{Setting, widest, told_of, started, run, kept, below_node, answered, searched, searched_in, pair_of, selected, segment_meaning, selector_meaning, test_meaning, operand_meaning, TellsAll, IsTold}
-use Rattle.arz_path.specs.Seen.{grown, chosen, chosen_all, picked, kept_all, tested_all, found_all}
+use Rattle.arz_path.specs.Spots.{grown}
+use Rattle.arz_path.specs.Seen.{chosen, chosen_all, picked, kept_all, tested_all, found_all}
 use Rattle.arz_path.proofs.Meanings.{meaning-Name, meaning-Wildcard, meaning-Index, meaning-Slice, meaning-Not, meaning-Compare, meaning-Match, meaning-Search, meaning-Null, meaning-Flag, meaning-Int, meaning-Text, meaning-Length}
 use Rattle.arz_path.proofs.Parts.{segment-Child, segment-Descendant, selector-Filter, test-Any, test-All, test-Exists, operand-Query, operand-Value, operand-Count}
 

@@ -4,4 +4,6 @@ pub mod Values
 pub mod Selected
 pub mod Results
 pub mod Finding
+pub mod Begins
+pub mod Spots
 pub mod Seen

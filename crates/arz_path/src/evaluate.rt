@@ -1,18 +1,21 @@
 // Evaluating the parts of a query.
-ghost use Rattle.std.specs.Prelude.{◌≡◌, ◌≤◌, [], ◌∷◌, length, map};
+ghost use Rattle.std.specs.Prelude.{◌≡◌, ◌≤◌, [], ◌∷◌, length, map, OnOk};
 ghost use Rattle.std.specs.List.{list_any, list_all};
 ghost use Rattle.arz_path.specs.Outcome.{outcome_map};
 ghost use Rattle.arz_path.specs.Tree.{children};
-ghost use Rattle.arz_path.specs.Selected.{widest, segment_meaning, selector_meaning, test_meaning, operand_meaning};
-ghost use Rattle.arz_path.specs.Seen.{seen, grown, all_seen, branches_seen, bits_seen, worth_seen, found_seen, found_in, chosen, chosen_all, kept_all, found_all, tested_all, run_all};
+ghost use Rattle.arz_path.specs.Selected.{widest, test_meaning, operand_meaning};
+ghost use Rattle.arz_path.specs.Begins.{begun};
+ghost use Rattle.arz_path.specs.Spots.{grown, sifted, picked_at, chosen_at, chosen_each, reached, spots_after, spots_after_all};
+ghost use Rattle.arz_path.specs.Seen.{seen, all_seen, bits_seen, worth_seen, found_seen, found_in, found_all, tested_all, way, ahead};
 ghost use Rattle.arz_path.specs.Results.{Asked, Answers, bit_seen, setting_of};
 
 use crate::SelectFault;
-use crate::nodes::{Branch, Found, Held, Trail, descend_all, found_among, items_of, members_of};
-use crate::pick::{children_of, item_named, named, slice_of};
-use crate::push::push_all;
+use crate::children::Children;
+use crate::nodes::{Found, Held, found_among};
+use crate::push::{add_child, add_children, add_item, add_named, add_slice};
 use crate::search::is_match;
 use crate::values::{Worth, compare, length_of, worth_of, worth_of_count};
+use crate::walk::Walk;
 use arz_json::Json;
 use arz_query::{Operand, Segment, Selector, Start, Test};
 use arz_rx::Patterns;
@@ -30,7 +33,7 @@ pub fn nodes_after<'t, 'a, P: Patterns>(
     origin: Held<'t, 'a>,
     rx: &mut P,
 ) -> Result<Vec<Held<'t, 'a>>, SelectFault>
-    ensures gives { Answers all_seen result (run_all (setting_of (P.patterns rx.old) root.now) segments.now (seen origin.entry ∷ []))
+    ensures gives { Answers all_seen result (spots_after_all (setting_of (P.patterns rx.old) root.now) segments.now (seen origin.entry ∷ []))
         (P.patterns rx.old) (P.patterns rx.new) }
     ensures asked { Asked (P.patterns rx.old) (P.patterns rx.new) }
 {
@@ -51,106 +54,145 @@ fn after_segment<'t, 'a, P: Patterns>(
     nodes: &[Held<'t, 'a>],
     rx: &mut P,
 ) -> Result<Vec<Held<'t, 'a>>, SelectFault>
-    ensures gives { Answers all_seen result (segment_meaning segment.now (setting_of (P.patterns rx.old) root.now) (map seen nodes.now))
-        (P.patterns rx.old) (P.patterns rx.new) }
-    ensures asked { Asked (P.patterns rx.old) (P.patterns rx.new) }
-{
-    match segment {
-        Segment::Child(selectors) => choose_all(selectors, alloc, bump, root, nodes, rx),
-        Segment::Descendant(selectors) => {
-            let all = descend_all(alloc, bump, nodes)?;
-            choose_all(selectors, alloc, bump, root, all.as_slice(), rx)
-        }
-    }
-}
-
-#[cycle(evaluate)]
-fn choose_all<'t, 'a, P: Patterns>(
-    selectors: &'a Items<Selector>,
-    alloc: Global,
-    bump: &'t Bump,
-    root: &'a Json,
-    nodes: &[Held<'t, 'a>],
-    rx: &mut P,
-) -> Result<Vec<Held<'t, 'a>>, SelectFault>
-    ensures gives { Answers all_seen result (grown [] (chosen_all (setting_of (P.patterns rx.old) root.now) selectors.now (map seen nodes.now)))
+    ensures gives { Answers all_seen result (spots_after (setting_of (P.patterns rx.old) root.now) segment.now (map seen nodes.now))
         (P.patterns rx.old) (P.patterns rx.new) }
     ensures asked { Asked (P.patterns rx.old) (P.patterns rx.new) }
 {
     let mut out = Vec::new(alloc);
     for node in nodes {
-        choose_each(selectors, alloc, bump, root, node, &mut out, rx)?;
+        reach(segment, alloc, bump, root, *node, &mut out, rx)?;
     }
     Ok(out)
 }
 
+/// What a segment selects from a node.
 #[cycle(evaluate)]
-fn choose_each<'t, 'a, P: Patterns>(
-    selectors: &'a Items<Selector>,
+fn reach<'t, 'a, P: Patterns>(
+    segment: &'a Segment,
     alloc: Global,
     bump: &'t Bump,
     root: &'a Json,
-    node: &Held<'t, 'a>,
+    node: Held<'t, 'a>,
     out: &mut Vec<Held<'t, 'a>>,
     rx: &mut P,
 ) -> Result<(), SelectFault>
     requires { length out.old.items ≤ widest }
-    ensures gives { Answers (λ _. map seen out.new.items) result (grown (map seen out.old.items) (chosen (setting_of (P.patterns rx.old) root.now) selectors.now (seen node.now)))
+    ensures gives { Answers (λ _. map seen out.new.items) result (grown (map seen out.old.items) (reached (setting_of (P.patterns rx.old) root.now) segment.now (seen node.entry)))
         (P.patterns rx.old) (P.patterns rx.new) }
     ensures asked { Asked (P.patterns rx.old) (P.patterns rx.new) }
     ensures room { length out.new.items ≤ widest }
 {
+    let mut walk = Walk::at(alloc, node);
+    match segment {
+        Segment::Child(selectors) => { choose(selectors, alloc, bump, root, &mut walk, out, rx) }
+        Segment::Descendant(selectors) => {
+            choose_below(selectors, alloc, bump, root, &mut walk, out, rx)
+        }
+    }
+}
+
+/// What selectors select at the node where a walk stands and at each that comes after it.
+#[cycle(evaluate)]
+fn choose_below<'t, 'a, P: Patterns>(
+    selectors: &'a Items<Selector>,
+    alloc: Global,
+    bump: &'t Bump,
+    root: &'a Json,
+    walk: &mut Walk<'t, 'a>,
+    out: &mut Vec<Held<'t, 'a>>,
+    rx: &mut P,
+) -> Result<(), SelectFault>
+    requires { length out.old.items ≤ widest }
+    ensures gives { Answers (λ _. map seen out.new.items) result (grown (map seen out.old.items) (chosen_each (setting_of (P.patterns rx.old) root.now) selectors.now (ahead (way walk.old))))
+        (P.patterns rx.old) (P.patterns rx.new) }
+    ensures asked { Asked (P.patterns rx.old) (P.patterns rx.new) }
+    ensures room { length out.new.items ≤ widest }
+{
+    'nodes: loop {
+        choose(selectors, alloc, bump, root, walk, out, rx)?;
+        if !walk.advance()? {
+            return Ok(());
+        }
+    }
+}
+
+/// What selectors select at the node where a walk stands.
+#[cycle(evaluate)]
+fn choose<'t, 'a, P: Patterns>(
+    selectors: &'a Items<Selector>,
+    alloc: Global,
+    bump: &'t Bump,
+    root: &'a Json,
+    walk: &mut Walk<'t, 'a>,
+    out: &mut Vec<Held<'t, 'a>>,
+    rx: &mut P,
+) -> Result<(), SelectFault>
+    requires { length out.old.items ≤ widest }
+    ensures gives { Answers (λ _. map seen out.new.items) result (grown (map seen out.old.items) (chosen_at (setting_of (P.patterns rx.old) root.now) selectors.now (way walk.old).0))
+        (P.patterns rx.old) (P.patterns rx.new) }
+    ensures asked { Asked (P.patterns rx.old) (P.patterns rx.new) }
+    ensures same { OnOk result (way walk.new ≡ way walk.old) }
+    ensures room { length out.new.items ≤ widest }
+{
     for selector in selectors.as_slice() {
-        let children = pick(selector, alloc, root, node.value, rx)?;
-        push_all(bump, node, children.as_slice(), out)?;
+        pick(selector, alloc, bump, root, walk, out, rx)?;
     }
     Ok(())
 }
 
-/// The children of a value that a selector selects.
+/// What a selector selects at the node where a walk stands.
 #[cycle(evaluate)]
-fn pick<'a, P: Patterns>(
+fn pick<'t, 'a, P: Patterns>(
     selector: &'a Selector,
     alloc: Global,
+    bump: &'t Bump,
     root: &'a Json,
-    value: &'a Json,
+    walk: &mut Walk<'t, 'a>,
+    out: &mut Vec<Held<'t, 'a>>,
     rx: &mut P,
-) -> Result<Vec<Branch<'a>>, SelectFault>
-    ensures gives { Answers branches_seen result (selector_meaning selector.now (setting_of (P.patterns rx.old) root.now) value.now)
+) -> Result<(), SelectFault>
+    requires { length out.old.items ≤ widest }
+    ensures gives { Answers (λ _. map seen out.new.items) result (grown (map seen out.old.items) (picked_at (setting_of (P.patterns rx.old) root.now) (way walk.old).0 selector.now))
         (P.patterns rx.old) (P.patterns rx.new) }
     ensures asked { Asked (P.patterns rx.old) (P.patterns rx.new) }
+    ensures same { OnOk result (way walk.new ≡ way walk.old) }
+    ensures room { length out.new.items ≤ widest }
 {
     match selector {
-        Selector::Name(name) => Ok(named(alloc, name.as_str(), members_of(value))?),
-        Selector::Wildcard => Ok(children_of(alloc, value)?),
-        Selector::Index(i) => Ok(item_named(alloc, *i, items_of(value))?),
-        Selector::Slice(slice) => Ok(slice_of(alloc, slice, items_of(value))?),
-        Selector::Filter(test) => keep_where(test, alloc, root, value, rx),
+        Selector::Name(name) => add_named(name.as_str(), bump, walk, out),
+        Selector::Wildcard => add_children(bump, walk, out),
+        Selector::Index(i) => add_item(*i, bump, walk, out),
+        Selector::Slice(slice) => add_slice(slice, alloc, bump, walk, out),
+        Selector::Filter(test) => sift(test, alloc, bump, root, walk, out, rx),
     }
 }
 
-/// The children that pass a test.
+/// The children that pass a test, of the node where a walk stands.
 #[cycle(evaluate)]
-fn keep_where<'a, P: Patterns>(
+fn sift<'t, 'a, P: Patterns>(
     test: &'a Test,
     alloc: Global,
+    bump: &'t Bump,
     root: &'a Json,
-    value: &'a Json,
+    walk: &mut Walk<'t, 'a>,
+    out: &mut Vec<Held<'t, 'a>>,
     rx: &mut P,
-) -> Result<Vec<Branch<'a>>, SelectFault>
-    ensures gives { Answers branches_seen result (kept_all (setting_of (P.patterns rx.old) root.now) test.now (children value.now))
+) -> Result<(), SelectFault>
+    requires { length out.old.items ≤ widest }
+    ensures gives { Answers (λ _. map seen out.new.items) result (grown (map seen out.old.items) (sifted (setting_of (P.patterns rx.old) root.now) test.now (way walk.old).0 (children (way walk.old).0.1)))
         (P.patterns rx.old) (P.patterns rx.new) }
     ensures asked { Asked (P.patterns rx.old) (P.patterns rx.new) }
+    ensures same { OnOk result (way walk.new ≡ way walk.old) }
+    ensures room { length out.new.items ≤ widest }
 {
-    let children = children_of(alloc, value)?;
-    let mut kept = Vec::new(alloc);
-    for child in children.as_slice() {
+    let mut children = Children::of(walk.value());
+    'children: while let Some(child) = children.next() {
         if !holds(test, alloc, root, child.value, rx)? {
             continue;
         }
-        kept.push(*child)?;
+        add_child(bump, walk, child, out)?;
     }
-    Ok(kept)
+    Ok(())
 }
 
 /// Whether an expression holds at a current node.
@@ -277,15 +319,18 @@ fn found_from<'a, P: Patterns>(
     ensures asked { Asked (P.patterns rx.old) (P.patterns rx.new) }
 {
     let bump = Bump::new(alloc);
-    let trail = Trail::Start;
-    let value = match start {
-        Start::Root => root,
-        Start::Current => current,
-    };
-    let origin = Held {
-        trail: &trail,
-        value,
-    };
+    let value = begin(start, root, current);
+    let origin = Held { trail: None, value };
     let nodes = nodes_after(segments, alloc, &bump, root, origin, rx)?;
     Ok(found_among(nodes.as_slice()))
+}
+
+/// The value where a query inside a filter begins.
+fn begin<'a>(start: Start, root: &'a Json, current: &'a Json) -> &'a Json
+    ensures { result.now ≡ begun start root.now current.now }
+{
+    match start {
+        Start::Root => root,
+        Start::Current => current,
+    }
 }

@@ -1,9 +1,9 @@
 // The node that a place names.
-ghost use Rattle.std.specs.Prelude.{◌≡◌, slice_get};
+ghost use Rattle.std.specs.Prelude.{◌≡◌};
 ghost use Rattle.std.specs.Option.{option_copied};
 ghost use Rattle.arz_path.specs.Finding.{child_at, found_at};
 
-use crate::nodes::items_of;
+use crate::nodes::{item_at, items_of};
 use crate::{Place, Token};
 use arz_json::Json;
 
@@ -25,10 +25,4 @@ fn child<'a>(value: &'a Json, token: &Token) -> Option<&'a Json>
         Token::Name(name) => value.get(name.as_str()),
         Token::Index(i) => item_at(items_of(value), *i as usize),
     }
-}
-
-fn item_at(items: &[Json], at: usize) -> Option<&Json>
-    ensures { option_copied result ≡ slice_get items.now at }
-{
-    items.get(at)
 }

@@ -1,6 +1,7 @@
 //! Evaluating queries of JSONPath (RFC 9535): the places of a tree that a query selects, in order.
 #![tactic(auto)]
 
+mod children;
 mod evaluate;
 mod fault;
 mod finding;
@@ -11,6 +12,7 @@ mod push;
 mod search;
 mod selecting;
 mod values;
+mod walk;
 
 pub use arz_json::{Place, Token};
 pub use arz_query::{PathFault, Query};

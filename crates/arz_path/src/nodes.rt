@@ -1,12 +1,13 @@
-// Nodes as the code holds them: a reference, and a chain of steps that nodes share.
-ghost use Rattle.std.specs.Prelude.{◌≡◌, [], ◌∷◌, ◌++◌, map, OnOk, IfOk};
-ghost use Rattle.std.specs.List.{flat_map};
-ghost use Rattle.arz_path.specs.Tree.{items_of as items_in_tree, members_of as members_in_tree, preorder};
-ghost use Rattle.arz_path.specs.Seen.{token_of, tokens_of, seen, item_nodes, member_nodes, found_seen, found_in};
+// Nodes as the code holds them: a reference, and a chain of steps that nodes share, where places are wanted.
+ghost use Rattle.std.specs.Prelude.{◌≡◌, map, slice_get, IfOk};
+ghost use Rattle.std.specs.Option.{option_copied};
+ghost use Rattle.arz_path.specs.Tree.{items_of as items_in_tree, members_of as members_in_tree};
+ghost use Rattle.arz_path.specs.Spots.{further as further_place};
+ghost use Rattle.arz_path.specs.Seen.{token_of, place_in, seen, found_seen, spots_found};
 
 use arz_json::{Json, Member, Text};
 use bumpalo::Bump;
-use std::alloc::{AllocError, Global};
+use std::alloc::AllocError;
 
 /// A step to a child, which borrows the name.
 #[derive(Clone, Copy)]
@@ -22,10 +23,10 @@ pub enum Trail<'t, 'a> {
     Child(&'t Trail<'t, 'a>, Step<'a>),
 }
 
-/// A node.
+/// A node, with no trail where places aren't wanted.
 #[derive(Clone, Copy)]
 pub struct Held<'t, 'a> {
-    pub trail: &'t Trail<'t, 'a>,
+    pub trail: Option<&'t Trail<'t, 'a>>,
     pub value: &'a Json,
 }
 
@@ -56,88 +57,26 @@ pub fn members_of(value: &Json) -> &[Member]
     }
 }
 
-/// One step more.
+/// The item at an index.
+pub fn item_at(items: &[Json], at: usize) -> Option<&Json>
+    ensures { option_copied result ≡ slice_get items.now at }
+{
+    items.get(at)
+}
+
+/// One step more, where places are wanted.
 pub fn further<'t, 'a>(
     bump: &'t Bump,
-    trail: &'t Trail<'t, 'a>,
+    trail: Option<&'t Trail<'t, 'a>>,
     step: Step<'a>,
-) -> Result<&'t Trail<'t, 'a>, AllocError>
-    ensures { IfOk result (λ all. tokens_of all.now ≡ tokens_of trail.now ++ token_of step.entry ∷ []) }
+) -> Result<Option<&'t Trail<'t, 'a>>, AllocError>
+    ensures { IfOk result (λ all. place_in all ≡ further_place (place_in trail.entry) (token_of step.entry)) }
 {
-    Ok(bump.try_alloc(Trail::Child(trail, step))?)
-}
-
-/// The node and all below it.
-#[cycle(descend)]
-pub fn descend<'t, 'a>(
-    bump: &'t Bump,
-    value: &'a Json,
-    trail: &'t Trail<'t, 'a>,
-    out: &mut Vec<Held<'t, 'a>>,
-) -> Result<(), AllocError>
-    ensures { OnOk result (map seen out.new.items
-        ≡ map seen out.old.items ++ preorder (tokens_of trail.now, value.now)) }
-{
-    out.push(Held { trail, value })?;
-    descend_items(bump, items_of(value), trail, out)?;
-    descend_members(bump, members_of(value), trail, out)
-}
-
-#[cycle(descend)]
-fn descend_items<'t, 'a>(
-    bump: &'t Bump,
-    items: &'a [Json],
-    trail: &'t Trail<'t, 'a>,
-    out: &mut Vec<Held<'t, 'a>>,
-) -> Result<(), AllocError>
-    ensures { OnOk result (map seen out.new.items
-        ≡ map seen out.old.items ++ item_nodes (tokens_of trail.now) 0 items.now) }
-{
-    for (i, item) in items.iter().enumerate() {
-        descend(
-            bump,
-            item,
-            further(bump, trail, Step::Index(i as u64))?,
-            out,
-        )?;
-    }
-    Ok(())
-}
-
-#[cycle(descend)]
-fn descend_members<'t, 'a>(
-    bump: &'t Bump,
-    members: &'a [Member],
-    trail: &'t Trail<'t, 'a>,
-    out: &mut Vec<Held<'t, 'a>>,
-) -> Result<(), AllocError>
-    ensures { OnOk result (map seen out.new.items
-        ≡ map seen out.old.items ++ member_nodes (tokens_of trail.now) members.now) }
-{
-    for member in members {
-        descend(
-            bump,
-            &member.value,
-            further(bump, trail, Step::Name(&member.name))?,
-            out,
-        )?;
-    }
-    Ok(())
-}
-
-/// Each node and all below it.
-pub fn descend_all<'t, 'a>(
-    alloc: Global,
-    bump: &'t Bump,
-    nodes: &[Held<'t, 'a>],
-) -> Result<Vec<Held<'t, 'a>>, AllocError>
-    ensures { IfOk result (λ all. map seen all.items ≡ flat_map preorder (map seen nodes.now)) }
-{
-    let mut all = Vec::new(alloc);
-    for node in nodes {
-        descend(bump, node.value, node.trail, &mut all)?;
-    }
-    Ok(all)
+    let Some(before) = trail else {
+        return Ok(None);
+    };
+    let all = bump.try_alloc(Trail::Child(before, step))?;
+    Ok(Some(all))
 }
 
 /// How many nodes a query found, and the value of the only one.
@@ -149,7 +88,7 @@ pub struct Found<'a> {
 
 /// How many nodes there are, and the value of the only one.
 pub fn found_among<'a>(nodes: &[Held<'_, 'a>]) -> Found<'a>
-    ensures { found_seen result ≡ found_in (map seen nodes.now) }
+    ensures { found_seen result ≡ spots_found (map seen nodes.now) }
 {
     let count = nodes.len();
     if count != 1 {

@@ -1,78 +1,16 @@
-// The children of a value that a selector without a test selects.
-ghost use Rattle.std.specs.Prelude.{◌≡◌, ◌≢◌, ◌≤◌, [], ◌∷◌, ◌++◌, map, filter, length, slice_get, pos, IfOk, OnOk};
-ghost use Rattle.std.specs.Option.{option_copied};
-ghost use Rattle.std.specs.List.{enumerate_from};
-ghost use Rattle.arz_path.specs.Tree.{children, item_child, member_child};
-ghost use Rattle.arz_path.specs.Selected.{is_name, indexed, index_in, sliced, is_taken, up_to, past, bound, in_direction};
+// The items of a list that an index or a slice selects.
+ghost use Rattle.std.specs.Prelude.{◌≡◌, ◌≢◌, ◌≤◌, ◌++◌, map, length, pos, IfOk, OnOk};
+ghost use Rattle.arz_path.specs.Tree.{item_child};
+ghost use Rattle.arz_path.specs.Selected.{index_in, sliced, is_taken, up_to, past, bound, in_direction};
 ghost use Rattle.arz_path.specs.Seen.{branch_of, lowest, highest, taken_from};
 
-use crate::nodes::{Branch, Step, items_of, members_of};
-use arz_json::{Json, Member};
+use crate::nodes::{Branch, Step};
+use arz_json::Json;
 use arz_query::Slice;
 use std::alloc::{AllocError, Global};
 
-/// All children.
-pub fn children_of<'a>(alloc: Global, value: &'a Json) -> Result<Vec<Branch<'a>>, AllocError>
-    ensures { IfOk result (λ all. map branch_of all.items ≡ children value.now) }
-{
-    let mut all = Vec::new(alloc);
-    add_items(items_of(value), &mut all)?;
-    add_members(members_of(value), &mut all)?;
-    Ok(all)
-}
-
-fn add_items<'a>(items: &'a [Json], out: &mut Vec<Branch<'a>>) -> Result<(), AllocError>
-    ensures { OnOk result (map branch_of out.new.items
-        ≡ map branch_of out.old.items ++ map item_child (enumerate_from 0 items.now)) }
-{
-    for (i, value) in items.iter().enumerate() {
-        let step = Step::Index(i as u64);
-        out.push(Branch { step, value })?;
-    }
-    Ok(())
-}
-
-fn add_members<'a>(members: &'a [Member], out: &mut Vec<Branch<'a>>) -> Result<(), AllocError>
-    ensures { OnOk result (map branch_of out.new.items
-        ≡ map branch_of out.old.items ++ map member_child members.now) }
-{
-    for member in members {
-        let step = Step::Name(&member.name);
-        let value = &member.value;
-        out.push(Branch { step, value })?;
-    }
-    Ok(())
-}
-
-/// The members with this name.
-pub fn named<'a>(
-    alloc: Global,
-    name: &str,
-    members: &'a [Member],
-) -> Result<Vec<Branch<'a>>, AllocError>
-    ensures { IfOk result (λ all. map branch_of all.items ≡ filter (λ c. is_name name.now c.0) (map member_child members.now)) }
-{
-    let mut all = Vec::new(alloc);
-    for member in members {
-        if member.name.as_str() != name {
-            continue;
-        }
-        let step = Step::Name(&member.name);
-        let value = &member.value;
-        add(Branch { step, value }, &mut all)?;
-    }
-    Ok(all)
-}
-
-fn add<'a>(child: Branch<'a>, out: &mut Vec<Branch<'a>>) -> Result<(), AllocError>
-    ensures { OnOk result (out.new.items ≡ out.old.items ++ child.entry ∷ []) }
-{
-    out.push(child)?;
-    Ok(())
-}
-
 /// The index in a list that a number names, and the length where it names none.
-fn place_in(len: usize, i: i64) -> usize
+pub fn index_of(len: usize, i: i64) -> usize
     ensures { result ≡ index_in len i }
 {
     if i >= 0 {
@@ -80,29 +18,6 @@ fn place_in(len: usize, i: i64) -> usize
     }
     let back = i.unsigned_abs() as usize;
     if back <= len { len - back } else { len }
-}
-
-fn item_at(items: &[Json], at: usize) -> Option<&Json>
-    ensures { option_copied result ≡ slice_get items.now at }
-{
-    items.get(at)
-}
-
-/// The item at an index.
-pub fn item_named<'a>(
-    alloc: Global,
-    i: i64,
-    items: &'a [Json],
-) -> Result<Vec<Branch<'a>>, AllocError>
-    ensures { IfOk result (λ all. map branch_of all.items ≡ indexed i items.now) }
-{
-    let mut all = Vec::new(alloc);
-    let at = place_in(items.len(), i);
-    if let Some(value) = item_at(items, at) {
-        let step = Step::Index(at as u64);
-        add(Branch { step, value }, &mut all)?;
-    }
-    Ok(all)
 }
 
 /// The first index that isn't before a number.

@@ -1,8 +1,7 @@
 // Selecting places.
 ghost use Rattle.std.specs.Prelude.{◌≡◌, ◌++◌, map, OnOk, IfOk};
 ghost use Rattle.arz_path.specs.Results.{Asked, Selects, SaysAny, tokens_in};
-ghost use Rattle.arz_path.specs.Selected.{place_of, is_some_node};
-ghost use Rattle.arz_path.specs.Seen.{seen, token_of, tokens_of};
+ghost use Rattle.arz_path.specs.Seen.{seen, token_of, tokens_of, place_in, place_told, places_told, some_spot};
 
 use crate::evaluate::nodes_after;
 use crate::nodes::{Held, Step, Trail};
@@ -30,7 +29,7 @@ pub fn select<P: Patterns>(
     let bump = Bump::new(alloc);
     let trail = Trail::Start;
     let origin = Held {
-        trail: &trail,
+        trail: Some(&trail),
         value: root,
     };
     let nodes = nodes_after(query.segments(), alloc, &bump, root, origin, rx)?;
@@ -48,9 +47,8 @@ pub fn any<P: Patterns>(
     ensures asked { Asked (P.patterns rx.old) (P.patterns rx.new) }
 {
     let bump = Bump::new(alloc);
-    let trail = Trail::Start;
     let origin = Held {
-        trail: &trail,
+        trail: None,
         value: root,
     };
     let nodes = nodes_after(query.segments(), alloc, &bump, root, origin, rx)?;
@@ -58,23 +56,35 @@ pub fn any<P: Patterns>(
 }
 
 fn has_any(nodes: &[Held]) -> bool
-    ensures { result ≡ is_some_node (map seen nodes.now) }
+    ensures { result ≡ some_spot (map seen nodes.now) }
 {
     !nodes.is_empty()
 }
 
 /// The places of nodes.
 fn places_of(alloc: Global, nodes: &[Held]) -> Result<Many<Place>, AllocError>
-    ensures { IfOk result (λ places. map tokens_in places ≡ map place_of (map seen nodes.now)) }
+    ensures { IfOk result (λ places. map tokens_in places ≡ places_told (map seen nodes.now)) }
 {
     let mut places = Vec::with_capacity(alloc, nodes.len())?;
     for node in nodes {
-        let mut tokens = Vec::new(alloc);
-        add_tokens(alloc, node.trail, &mut tokens)?;
-        let tokens = Many::from_std(tokens);
-        places.push(Place { tokens })?;
+        let place = place_from(alloc, node.trail)?;
+        places.push(place)?;
     }
     Ok(Many::from_std(places))
+}
+
+/// The place of a node, with no step where none is kept.
+fn place_from(alloc: Global, trail: Option<&Trail>) -> Result<Place, AllocError>
+    ensures { IfOk result (λ place. place.tokens ≡ place_told (place_in trail.entry)) }
+{
+    let mut tokens = Vec::new(alloc);
+    let Some(trail) = trail else {
+        let tokens = Many::from_std(tokens);
+        return Ok(Place { tokens });
+    };
+    add_tokens(alloc, trail, &mut tokens)?;
+    let tokens = Many::from_std(tokens);
+    Ok(Place { tokens })
 }
 
 fn add_tokens(alloc: Global, trail: &Trail, out: &mut Vec<Token>) -> Result<(), AllocError>

@@ -1,117 +1,251 @@
-use Rattle.std.proofs.Common.{pos, Bor, arith, ◌≡◌, [], ◌∷◌, ◌+◌, map, drop, ℕ, List, true, false, not, nat_lt, Option, Some, refl, sym, ap, subst, ◌∙◌}
+use Rattle.std.proofs.Common.{pos, rules, arith, ◌≡◌, [], ◌∷◌, ◌++◌, ◌+◌, map, drop, ℕ, List, true, false, not, nat_lt, Bool, cond, Ok, Option, Some, None, refl, sym, ap, ap₂, subst, ◌∙◌, append-nil}
 use Rattle.std.proofs.lemmas.Grind.{common_steps}
-use Rattle.std.specs.List.{list_any, list_all, flat_map}
+use Rattle.std.proofs.lemmas.Int.{to_z-of_z}
+use mir.Val.{to_z, of_z, SFits}
+use mir.Syntax.{w64}
+use Rattle.std.specs.List.{list_any, list_all}
 use Rattle.std.specs.Option.{option_copied}
 use Rattle.arz_json.specs.declared.tree.Json.{Json}
 use Rattle.arz_json.specs.declared.tree.Json.TheVariants.{Int}
+use Rattle.arz_json.specs.Answer.{Fails as Meant}
+use Rattle.arz_query.specs.declared.query.Selector.TheVariants as selector
 use Rattle.arz_query.specs.declared.query.Segment.{Segment}
 use Rattle.arz_query.specs.declared.query.Selector.{Selector}
 use Rattle.arz_query.specs.declared.query.Test.{Test}
 use Rattle.arz_path.specs.declared.nodes.Held.{Held}
-use Rattle.arz_path.specs.declared.nodes.Branch.{Branch}
-use Rattle.arz_path.specs.Outcome.{given, outcome_map, Covers}
-use Rattle.arz_path.specs.Tree.{preorder}
+use Rattle.arz_path.specs.Outcome.{given, outcome_map, each, Covers}
+use Rattle.arz_path.specs.Tree.{children}
 use Rattle.arz_path.specs.Values.{compared, length_of}
-use Rattle.arz_path.specs.Selected.{told_of, started, is_some_node, only, count_of, searched_in, segment_meaning, selector_meaning, test_meaning, operand_meaning}
-use Rattle.arz_path.specs.Seen.{seen, branch_of, worth_seen, grown, joined, all_seen, branches_seen, bits_seen, found_seen, found_in, chosen, chosen_all, kept_all, found_all, tested_all, run_all}
-use Rattle.arz_path.specs.Results.{Fails, bit_seen, setting_of}
+use Rattle.arz_path.specs.Selected.{told_of, is_some_node, only, count_of, searched_in, test_meaning, operand_meaning}
+use Rattle.arz_path.specs.Spots.{Spot, spots_below, within, down, grown, joined, sifted, picked_at, chosen_at, chosen_each, reached, spots_after, spots_after_all}
+use Rattle.arz_path.specs.Seen.{seen, branch_of, coming, way, ahead, worth_seen, all_seen, bits_seen, found_seen, found_in, spots_found, found_all, tested_all}
+use Rattle.arz_path.specs.Results.{Fails, cause, bit_seen, setting_of}
 use Rattle.arz_path.proofs.Outcomes.{through_map}
-use Rattle.arz_path.proofs.Faults.{asked_then, same_setting, fails_from, fails_map, fails_grows, exit, answers_later, pair_given}
-use Rattle.arz_path.proofs.Parts.{segment-Child, segment-Descendant, selector-Name, selector-Filter, test-Any, test-All, test-Exists, operand-Query, operand-Value, operand-Count, found-run, of_found, some_found}
+use Rattle.arz_path.proofs.Faults.{asked_then, same_setting, fails_from, fails_map, fails_grows, exit, answers_later, pair_given, grown_given}
+use Rattle.arz_path.proofs.Parts.{test-Any, test-All, test-Exists, operand-Query, operand-Value, operand-Count, of_found, some_found}
+use Rattle.arz_path.proofs.Bridge.{picked-Name, picked-Wildcard, answers-Index, picked-Slice, picked-Filter, reached-Child, reached-Descendant, found-spots}
 use Rattle.arz_path.proofs.Meanings.{meaning-Not, meaning-Length, meaning-Compare, meaning-Match, meaning-Search}
-use Rattle.arz_path.proofs.Steps.{kept_skip, kept_take, kept_fault, tested_step, tested_fault, run_step, run_fault, chosen_step, chosen_wide, chosen_fault, nodes_step, nodes_fault, kept_end, tested_end, run_end, chosen_end, nodes_end}
+use Rattle.arz_path.proofs.Levels.{ahead_first}
+use Rattle.arz_path.proofs.Steps.{seen_room, sifted_skip, sifted_take, sifted_wide, sifted_fault, tested_step, tested_fault, run_step, run_fault, reached_step, reached_fault, below_step, below_fault, chosen_step, chosen_fault, sifted_end, tested_end, run_end, reached_end, below_end, chosen_end}
 use Rattle.arz_path.proofs.evaluate.+evaluate.Goals as goal
-use Rattle.arz_path.proofs.evaluate.+evaluate.Goals.{found_from-in-Root, found_from-in-Current}
 
-pub after_segment-returns-in-Child-clause-gives : goal.after_segment-returns-in-Child-clause-gives
-after_segment-returns-in-Child-clause-gives g t c =
-    let is = ap (λ s. segment_meaning s (setting_of (g.P.Patterns.patterns c.args.rx.now) c.args.root.now) (map seen c.args.nodes.now)) c.in-Child.is ∙ segment-Child c.in-Child.selectors (setting_of (g.P.Patterns.patterns c.args.rx.now) c.args.root.now) (map seen c.args.nodes.now) in
-    rw is c.choose_all.ensures.gives
+pub nodes_after-returns-in_err-nodes-clause-gives : goal.nodes_after-returns-in_err-nodes-clause-gives
+nodes_after-returns-in_err-nodes-clause-gives g t c =
+    let l = c.loop-segment in
+    let x : Segment = c.segment-item.result in
+    let cut : drop l.segment-index c.as_slice-segment-items.result.now ≡ x ∷ drop (l.segment-index + 1) c.as_slice-segment-items.result.now = grind (arith, common_steps) in
+    let whole : c.as_slice-segment-items.result.now ≡ c.args.segments.now = c.as_slice-segment-items.ensures in
+    exit all_seen c.from_residual-in_err-nodes.result c.in_err-nodes.field-0.0 _ _ _ c.from_residual-in_err-nodes.ensures.1
+    (rw (← whole) (fails_from _ _ _ _ _ _ l.invariant.1 (run_fault (setting_of (g.P.Patterns.patterns c.args.rx.now) c.args.root.now) (setting_of (g.P.Patterns.patterns c.loop-segment.rx) c.args.root.now) (same_setting (g.P.Patterns.patterns c.args.rx.now) (g.P.Patterns.patterns c.loop-segment.rx) c.args.root.now c.loop-segment.invariant.1) (spots_after_all (setting_of (g.P.Patterns.patterns c.args.rx.now) c.args.root.now) c.as_slice-segment-items.result.now (seen c.args.origin ∷ [])) x _ _ cut (map seen l.nodes.items) l.invariant.0) (subst (λ (ns : List Held). Fails c.in_err-nodes.field-0.0 (spots_after (setting_of (g.P.Patterns.patterns c.loop-segment.rx) c.args.root.now) x (map seen ns)) (g.P.Patterns.patterns c.loop-segment.rx) (g.P.Patterns.patterns c.after_segment.new.rx)) c.as_slice.ensures.value c.in_err-nodes.ensures.gives)))
 
-pub after_segment-returns-in_ok-all-in-Descendant-clause-gives : goal.after_segment-returns-in_ok-all-in-Descendant-clause-gives
-after_segment-returns-in_ok-all-in-Descendant-clause-gives g t c =
-    let is = ap (λ s. segment_meaning s (setting_of (g.P.Patterns.patterns c.args.rx.now) c.args.root.now) (map seen c.args.nodes.now)) c.in-Descendant.is ∙ segment-Descendant c.in-Descendant.selectors (setting_of (g.P.Patterns.patterns c.args.rx.now) c.args.root.now) (map seen c.args.nodes.now) in
-    let all : map seen c.as_slice.result.now ≡ flat_map preorder (map seen c.args.nodes.now) = ap (map seen) c.as_slice.ensures.value ∙ c.in_ok-all-in-Descendant.ensures in
-    rw (is, ← all) c.choose_all-in-Descendant.ensures.gives
+pub nodes_after-loop-segment-preserved : goal.nodes_after-loop-segment-preserved
+nodes_after-loop-segment-preserved g t c =
+    let l = c.loop-segment in
+    let x : Segment = c.segment-item.result in
+    let cut : drop l.segment-index c.as_slice-segment-items.result.now ≡ x ∷ drop (l.segment-index + 1) c.as_slice-segment-items.result.now = grind (arith, common_steps) in (
+      run_step (setting_of (g.P.Patterns.patterns c.args.rx.now) c.args.root.now) (setting_of (g.P.Patterns.patterns c.loop-segment.rx) c.args.root.now) (same_setting (g.P.Patterns.patterns c.args.rx.now) (g.P.Patterns.patterns c.loop-segment.rx) c.args.root.now c.loop-segment.invariant.1) (spots_after_all (setting_of (g.P.Patterns.patterns c.args.rx.now) c.args.root.now) c.as_slice-segment-items.result.now (seen c.args.origin ∷ [])) x _ _ cut (map seen l.nodes.items) l.invariant.0 _ (subst (λ (ns : List Held). Covers (spots_after (setting_of (g.P.Patterns.patterns c.loop-segment.rx) c.args.root.now) x (map seen ns)) (given (map seen c.in_ok-nodes.nodes.items))) c.as_slice.ensures.value c.in_ok-nodes.ensures.gives),
+      asked_then _ _ _ l.invariant.1 c.in_ok-nodes.ensures.asked,
+    )
 
-pub choose_all-returns-in_err-choose_each-clause-gives : goal.choose_all-returns-in_err-choose_each-clause-gives
-choose_all-returns-in_err-choose_each-clause-gives g t c =
+pub nodes_after-returns-clause-gives : goal.nodes_after-returns-clause-gives
+nodes_after-returns-clause-gives g t c =
+    let l = c.loop-segment in
+    let whole : c.as_slice-segment-items.result.now ≡ c.args.segments.now = c.as_slice-segment-items.ensures in
+    let none : drop l.segment-index c.as_slice-segment-items.result.now ≡ [] = grind (arith, common_steps) in
+    rw (← whole) (run_end (setting_of (g.P.Patterns.patterns c.args.rx.now) c.args.root.now) _ _ (subst (λ r. Covers (spots_after_all (setting_of (g.P.Patterns.patterns c.args.rx.now) c.args.root.now) c.as_slice-segment-items.result.now (seen c.args.origin ∷ [])) (spots_after_all (setting_of (g.P.Patterns.patterns c.args.rx.now) c.args.root.now) r (map seen l.nodes.items))) none l.invariant.0))
+
+pub after_segment-returns-in_err-reach-clause-gives : goal.after_segment-returns-in_err-reach-clause-gives
+unfolding spots_after
+after_segment-returns-in_err-reach-clause-gives g t c =
     let l = c.loop-node in
     let x : Held = c.node-item.result in
     let cut : map seen (drop l.node-index c.args.nodes.now) ≡ seen x ∷ map seen (drop (l.node-index + 1) c.args.nodes.now) = grind (arith, common_steps) in
-    exit all_seen c.from_residual.result c.in_err-choose_each.field-0.0 _ _ _ c.from_residual.ensures.1
-    (fails_from _ _ _ _ _ _ l.invariant.1 (nodes_fault (setting_of (g.P.Patterns.patterns c.args.rx.now) c.args.root.now) (setting_of (g.P.Patterns.patterns c.loop-node.rx) c.args.root.now) (same_setting (g.P.Patterns.patterns c.args.rx.now) (g.P.Patterns.patterns c.loop-node.rx) c.args.root.now c.loop-node.invariant.1) c.args.selectors.now (grown [] (chosen_all (setting_of (g.P.Patterns.patterns c.args.rx.now) c.args.root.now) c.args.selectors.now (map seen c.args.nodes.now))) (map seen l.out.items) (seen x) _ _ cut l.invariant.0) c.in_err-choose_each.ensures.gives)
+    exit all_seen c.from_residual.result c.in_err-reach.field-0.0 _ _ _ c.from_residual.ensures.1
+    (fails_from _ _ _ _ _ _ l.invariant.1 (reached_fault (setting_of (g.P.Patterns.patterns c.args.rx.now) c.args.root.now) (setting_of (g.P.Patterns.patterns c.loop-node.rx) c.args.root.now) (same_setting (g.P.Patterns.patterns c.args.rx.now) (g.P.Patterns.patterns c.loop-node.rx) c.args.root.now c.loop-node.invariant.1) c.args.segment.now (grown [] (each (reached (setting_of (g.P.Patterns.patterns c.args.rx.now) c.args.root.now) c.args.segment.now) (map seen c.args.nodes.now))) (map seen l.out.items) (seen x) _ _ cut l.invariant.0) c.in_err-reach.ensures.gives)
 
-pub choose_all-loop-node-preserved : goal.choose_all-loop-node-preserved
-choose_all-loop-node-preserved g t c =
+pub after_segment-loop-node-preserved : goal.after_segment-loop-node-preserved
+after_segment-loop-node-preserved g t c =
     let l = c.loop-node in
     let x : Held = c.node-item.result in
     let cut : map seen (drop l.node-index c.args.nodes.now) ≡ seen x ∷ map seen (drop (l.node-index + 1) c.args.nodes.now) = grind (arith, common_steps) in (
-      nodes_step (setting_of (g.P.Patterns.patterns c.args.rx.now) c.args.root.now) (setting_of (g.P.Patterns.patterns c.loop-node.rx) c.args.root.now) (same_setting (g.P.Patterns.patterns c.args.rx.now) (g.P.Patterns.patterns c.loop-node.rx) c.args.root.now c.loop-node.invariant.1) c.args.selectors.now (grown [] (chosen_all (setting_of (g.P.Patterns.patterns c.args.rx.now) c.args.root.now) c.args.selectors.now (map seen c.args.nodes.now))) (map seen l.out.items) (seen x) _ _ cut l.invariant.0 _ c.in_ok-choose_each.ensures.gives,
-      asked_then _ _ _ l.invariant.1 c.in_ok-choose_each.ensures.asked,
-      c.in_ok-choose_each.ensures.room,
+      reached_step (setting_of (g.P.Patterns.patterns c.args.rx.now) c.args.root.now) (setting_of (g.P.Patterns.patterns c.loop-node.rx) c.args.root.now) (same_setting (g.P.Patterns.patterns c.args.rx.now) (g.P.Patterns.patterns c.loop-node.rx) c.args.root.now c.loop-node.invariant.1) c.args.segment.now (grown [] (each (reached (setting_of (g.P.Patterns.patterns c.args.rx.now) c.args.root.now) c.args.segment.now) (map seen c.args.nodes.now))) (map seen l.out.items) (seen x) _ _ cut l.invariant.0 _ c.in_ok-reach.ensures.gives,
+      asked_then _ _ _ l.invariant.1 c.in_ok-reach.ensures.asked,
+      c.in_ok-reach.ensures.room,
     )
 
-pub choose_all-returns-clause-gives : goal.choose_all-returns-clause-gives
-choose_all-returns-clause-gives g t c =
+pub after_segment-returns-clause-gives : goal.after_segment-returns-clause-gives
+unfolding spots_after
+after_segment-returns-clause-gives g t c =
     let l = c.loop-node in
     let none : drop l.node-index c.args.nodes.now ≡ [] = grind (arith, common_steps) in
-    nodes_end (setting_of (g.P.Patterns.patterns c.args.rx.now) c.args.root.now) c.args.selectors.now _ l.out.items l.invariant.2 (subst (λ r. Covers (grown [] (chosen_all (setting_of (g.P.Patterns.patterns c.args.rx.now) c.args.root.now) c.args.selectors.now (map seen c.args.nodes.now))) (grown (map seen l.out.items) (chosen_all (setting_of (g.P.Patterns.patterns c.args.rx.now) c.args.root.now) c.args.selectors.now (map seen r)))) none l.invariant.0)
+    reached_end (setting_of (g.P.Patterns.patterns c.args.rx.now) c.args.root.now) c.args.segment.now _ l.out.items l.invariant.2 (subst (λ r. Covers (grown [] (each (reached (setting_of (g.P.Patterns.patterns c.args.rx.now) c.args.root.now) c.args.segment.now) (map seen c.args.nodes.now))) (grown (map seen l.out.items) (each (reached (setting_of (g.P.Patterns.patterns c.args.rx.now) c.args.root.now) c.args.segment.now) (map seen r)))) none l.invariant.0)
 
-pub choose_each-returns-in_err-children-clause-gives : goal.choose_each-returns-in_err-children-clause-gives
-choose_each-returns-in_err-children-clause-gives g t c =
-    let l = c.loop-selector in
-    let whole : c.as_slice-selector-items.result.now ≡ c.args.selectors.now = c.as_slice-selector-items.ensures in
-    let x : Selector = c.selector-item.result in
-    let cut : drop l.selector-index c.as_slice-selector-items.result.now ≡ x ∷ drop (l.selector-index + 1) c.as_slice-selector-items.result.now = grind (arith, common_steps) in
-    exit _ c.from_residual.result c.in_err-children.field-0.0 _ _ _ c.from_residual.ensures.1
-    (rw (← whole) (fails_from _ _ _ _ _ _ l.invariant.1 (chosen_fault (setting_of (g.P.Patterns.patterns c.args.rx.now) c.args.root.now) (setting_of (g.P.Patterns.patterns c.loop-selector.rx) c.args.root.now) (same_setting (g.P.Patterns.patterns c.args.rx.now) (g.P.Patterns.patterns c.loop-selector.rx) c.args.root.now c.loop-selector.invariant.1) (seen c.args.node.now) (grown (map seen c.args.out.now.items) (chosen (setting_of (g.P.Patterns.patterns c.args.rx.now) c.args.root.now) c.as_slice-selector-items.result.now (seen c.args.node.now))) (map seen l.out.items) x _ _ cut l.invariant.0) c.in_err-children.ensures.gives))
+pub reach-returns-in-Child-clause-gives : goal.reach-returns-in-Child-clause-gives
+reach-returns-in-Child-clause-gives g t c =
+    let at : way c.at-walk.result ≡ (seen c.args.node, []) = c.at-walk.ensures in
+    let is = ap (λ v. reached (setting_of (g.P.Patterns.patterns c.args.rx.now) c.args.root.now) v (seen c.args.node)) c.in-Child.is ∙ reached-Child (setting_of (g.P.Patterns.patterns c.args.rx.now) c.args.root.now) c.in-Child.selectors (seen c.args.node)
+    ∙ ap (λ (w : Spot × List Spot). chosen_at (setting_of (g.P.Patterns.patterns c.args.rx.now) c.args.root.now) c.in-Child.selectors w.0) (sym at) in
+    rw is c.choose.ensures.gives
 
-pub choose_each-returns-in_err-push_all-clause-gives : goal.choose_each-returns-in_err-push_all-clause-gives
-choose_each-returns-in_err-push_all-clause-gives g t c =
-    let l = c.loop-selector in
-    let whole : c.as_slice-selector-items.result.now ≡ c.args.selectors.now = c.as_slice-selector-items.ensures in
-    let x : Selector = c.selector-item.result in
-    let cut : drop l.selector-index c.as_slice-selector-items.result.now ≡ x ∷ drop (l.selector-index + 1) c.as_slice-selector-items.result.now = grind (arith, common_steps) in
-    let children : Covers (selector_meaning x (setting_of (g.P.Patterns.patterns c.loop-selector.rx) c.args.root.now) (seen c.args.node.now).1) (given (map branch_of c.as_slice.result.now)) = subst (λ (vs : List Branch). Covers (selector_meaning x (setting_of (g.P.Patterns.patterns c.loop-selector.rx) c.args.root.now) (seen c.args.node.now).1) (given (map branch_of vs))) (sym c.as_slice.ensures.value) c.in_ok-children.ensures.gives in
-    exit _ c.from_residual-in_err-push_all.result c.in_err-push_all.field-0.0 _ _ _ c.from_residual-in_err-push_all.ensures.1
-    (rw (← whole) (fails_grows c.in_err-push_all.field-0.0 _ _ _ _ (chosen_wide (setting_of (g.P.Patterns.patterns c.args.rx.now) c.args.root.now) (setting_of (g.P.Patterns.patterns c.loop-selector.rx) c.args.root.now) (same_setting (g.P.Patterns.patterns c.args.rx.now) (g.P.Patterns.patterns c.loop-selector.rx) c.args.root.now c.loop-selector.invariant.1) (seen c.args.node.now) (grown (map seen c.args.out.now.items) (chosen (setting_of (g.P.Patterns.patterns c.args.rx.now) c.args.root.now) c.as_slice-selector-items.result.now (seen c.args.node.now))) (map seen l.out.items) x _ _ cut l.invariant.0 (map branch_of c.as_slice.result.now) children) c.in_err-push_all.ensures.gives))
+pub reach-returns-clause-gives : goal.reach-returns-clause-gives
+reach-returns-clause-gives g t c =
+    let at : way c.at-walk.result ≡ (seen c.args.node, []) = c.at-walk.ensures in
+    let is = ap (λ v. reached (setting_of (g.P.Patterns.patterns c.args.rx.now) c.args.root.now) v (seen c.args.node)) c.in-Descendant.is ∙ reached-Descendant (setting_of (g.P.Patterns.patterns c.args.rx.now) c.args.root.now) c.in-Descendant.selectors (seen c.args.node)
+    ∙ ap (chosen_each (setting_of (g.P.Patterns.patterns c.args.rx.now) c.args.root.now) c.in-Descendant.selectors) (sym (append-nil (down (seen c.args.node))) ∙ ap ahead (sym at)) in
+    rw is c.choose_below.ensures.gives
 
-pub choose_each-loop-selector-preserved : goal.choose_each-loop-selector-preserved
-choose_each-loop-selector-preserved g t c =
-    let l = c.loop-selector in
-    let x : Selector = c.selector-item.result in
-    let cut : drop l.selector-index c.as_slice-selector-items.result.now ≡ x ∷ drop (l.selector-index + 1) c.as_slice-selector-items.result.now = grind (arith, common_steps) in
-    let children : Covers (selector_meaning x (setting_of (g.P.Patterns.patterns c.loop-selector.rx) c.args.root.now) (seen c.args.node.now).1) (given (map branch_of c.as_slice.result.now)) = subst (λ (vs : List Branch). Covers (selector_meaning x (setting_of (g.P.Patterns.patterns c.loop-selector.rx) c.args.root.now) (seen c.args.node.now).1) (given (map branch_of vs))) (sym c.as_slice.ensures.value) c.in_ok-children.ensures.gives in (
-      chosen_step (setting_of (g.P.Patterns.patterns c.args.rx.now) c.args.root.now) (setting_of (g.P.Patterns.patterns c.loop-selector.rx) c.args.root.now) (same_setting (g.P.Patterns.patterns c.args.rx.now) (g.P.Patterns.patterns c.loop-selector.rx) c.args.root.now c.loop-selector.invariant.1) (seen c.args.node.now) (grown (map seen c.args.out.now.items) (chosen (setting_of (g.P.Patterns.patterns c.args.rx.now) c.args.root.now) c.as_slice-selector-items.result.now (seen c.args.node.now))) (map seen l.out.items) x _ _ cut l.invariant.0 (map branch_of c.as_slice.result.now) (map seen c.push_all.new.out.items) children (ap told_of c.in_ok-push_all.ensures.gives),
-      asked_then _ _ _ l.invariant.1 c.in_ok-children.ensures.asked,
-      c.in_ok-push_all.ensures.room,
+pub choose_below-returns-in_err-choose-clause-gives : goal.choose_below-returns-in_err-choose-clause-gives
+choose_below-returns-in_err-choose-clause-gives g t c =
+    let l = c.nodes in
+    exit _ c.from_residual.result c.in_err-choose.field-0.0 _ _ _ c.from_residual.ensures.1
+    (fails_from _ _ _ _ _ _ l.invariant.1 (below_fault (setting_of (g.P.Patterns.patterns c.args.rx.now) c.args.root.now) (setting_of (g.P.Patterns.patterns c.nodes.rx) c.args.root.now) (same_setting (g.P.Patterns.patterns c.args.rx.now) (g.P.Patterns.patterns c.nodes.rx) c.args.root.now c.nodes.invariant.1) c.args.selectors.now (grown (map seen c.args.out.now.items) (chosen_each (setting_of (g.P.Patterns.patterns c.args.rx.now) c.args.root.now) c.args.selectors.now (ahead (way c.args.walk.now)))) (map seen l.out.items) (way l.walk).0 (ahead (way l.walk)) _ (ahead_first (way l.walk)) l.invariant.0) c.in_err-choose.ensures.gives)
+
+pub choose_below-returns-then-not-branch-clause-gives : goal.choose_below-returns-then-not-branch-clause-gives
+choose_below-returns-then-not-branch-clause-gives g t c =
+    let l = c.nodes in
+    let went : c.in_ok-advance.field-0 ≡ false = grind (arith, common_steps) in
+    let stays : way c.choose.new.walk ≡ way l.walk = c.in_ok-choose.ensures.same in
+    let cut : ahead (way l.walk) ≡ (way l.walk).0 ∷ [] = ap ahead (sym stays) ∙ c.in_ok-advance.ensures
+    ∙ ap₂ (λ (w : Spot × List Spot) (b : Bool). w.0 ∷ cond b (ahead (way c.advance.new.self)) []) stays went in
+    below_end (setting_of (g.P.Patterns.patterns c.args.rx.now) c.args.root.now) c.args.selectors.now (grown (map seen c.args.out.now.items) (chosen_each (setting_of (g.P.Patterns.patterns c.args.rx.now) c.args.root.now) c.args.selectors.now (ahead (way c.args.walk.now)))) c.choose.new.out.items c.in_ok-choose.ensures.room (below_step (setting_of (g.P.Patterns.patterns c.args.rx.now) c.args.root.now) (setting_of (g.P.Patterns.patterns c.nodes.rx) c.args.root.now) (same_setting (g.P.Patterns.patterns c.args.rx.now) (g.P.Patterns.patterns c.nodes.rx) c.args.root.now c.nodes.invariant.1) c.args.selectors.now (grown (map seen c.args.out.now.items) (chosen_each (setting_of (g.P.Patterns.patterns c.args.rx.now) c.args.root.now) c.args.selectors.now (ahead (way c.args.walk.now)))) (map seen l.out.items) (way l.walk).0 (ahead (way l.walk)) [] cut l.invariant.0 (map seen c.choose.new.out.items) c.in_ok-choose.ensures.gives)
+
+pub choose_below-nodes-preserved : goal.choose_below-nodes-preserved
+choose_below-nodes-preserved g t c =
+    let l = c.nodes in
+    let went : c.in_ok-advance.field-0 ≡ true = grind (arith, common_steps) in
+    let stays : way c.choose.new.walk ≡ way l.walk = c.in_ok-choose.ensures.same in
+    let cut : ahead (way l.walk) ≡ (way l.walk).0 ∷ ahead (way c.advance.new.self) = ap ahead (sym stays) ∙ c.in_ok-advance.ensures
+    ∙ ap₂ (λ (w : Spot × List Spot) (b : Bool). w.0 ∷ cond b (ahead (way c.advance.new.self)) []) stays went in (
+      below_step (setting_of (g.P.Patterns.patterns c.args.rx.now) c.args.root.now) (setting_of (g.P.Patterns.patterns c.nodes.rx) c.args.root.now) (same_setting (g.P.Patterns.patterns c.args.rx.now) (g.P.Patterns.patterns c.nodes.rx) c.args.root.now c.nodes.invariant.1) c.args.selectors.now (grown (map seen c.args.out.now.items) (chosen_each (setting_of (g.P.Patterns.patterns c.args.rx.now) c.args.root.now) c.args.selectors.now (ahead (way c.args.walk.now)))) (map seen l.out.items) (way l.walk).0 (ahead (way l.walk)) (ahead (way c.advance.new.self)) cut l.invariant.0 (map seen c.choose.new.out.items) c.in_ok-choose.ensures.gives,
+      asked_then _ _ _ l.invariant.1 c.in_ok-choose.ensures.asked,
+      c.in_ok-choose.ensures.room,
     )
 
-pub choose_each-returns-clause-gives : goal.choose_each-returns-clause-gives
-choose_each-returns-clause-gives g t c =
+pub choose-returns-in_err-pick-clause-gives : goal.choose-returns-in_err-pick-clause-gives
+choose-returns-in_err-pick-clause-gives g t c =
+    let l = c.loop-selector in
+    let x : Selector = c.selector-item.result in
+    let cut : drop l.selector-index c.as_slice-selector-items.result.now ≡ x ∷ drop (l.selector-index + 1) c.as_slice-selector-items.result.now = grind (arith, common_steps) in
+    let whole : c.as_slice-selector-items.result.now ≡ c.args.selectors.now = c.as_slice-selector-items.ensures in
+    exit _ c.from_residual.result c.in_err-pick.field-0.0 _ _ _ c.from_residual.ensures.1
+    (rw (← whole) (fails_from _ _ _ _ _ _ l.invariant.1 (chosen_fault (setting_of (g.P.Patterns.patterns c.args.rx.now) c.args.root.now) (setting_of (g.P.Patterns.patterns c.loop-selector.rx) c.args.root.now) (same_setting (g.P.Patterns.patterns c.args.rx.now) (g.P.Patterns.patterns c.loop-selector.rx) c.args.root.now c.loop-selector.invariant.1) (way c.args.walk.now) (way l.walk) l.invariant.3 (grown (map seen c.args.out.now.items) (chosen_at (setting_of (g.P.Patterns.patterns c.args.rx.now) c.args.root.now) c.as_slice-selector-items.result.now (way c.args.walk.now).0)) (map seen l.out.items) x _ _ cut l.invariant.0) c.in_err-pick.ensures.gives))
+
+pub choose-loop-selector-preserved : goal.choose-loop-selector-preserved
+choose-loop-selector-preserved g t c =
+    let l = c.loop-selector in
+    let x : Selector = c.selector-item.result in
+    let cut : drop l.selector-index c.as_slice-selector-items.result.now ≡ x ∷ drop (l.selector-index + 1) c.as_slice-selector-items.result.now = grind (arith, common_steps) in (
+      chosen_step (setting_of (g.P.Patterns.patterns c.args.rx.now) c.args.root.now) (setting_of (g.P.Patterns.patterns c.loop-selector.rx) c.args.root.now) (same_setting (g.P.Patterns.patterns c.args.rx.now) (g.P.Patterns.patterns c.loop-selector.rx) c.args.root.now c.loop-selector.invariant.1) (way c.args.walk.now) (way l.walk) l.invariant.3 (grown (map seen c.args.out.now.items) (chosen_at (setting_of (g.P.Patterns.patterns c.args.rx.now) c.args.root.now) c.as_slice-selector-items.result.now (way c.args.walk.now).0)) (map seen l.out.items) x _ _ cut l.invariant.0 (map seen c.pick.new.out.items) c.in_ok-pick.ensures.gives,
+      asked_then _ _ _ l.invariant.1 c.in_ok-pick.ensures.asked,
+      c.in_ok-pick.ensures.room,
+      c.in_ok-pick.ensures.same ∙ l.invariant.3,
+    )
+
+pub choose-returns-clause-gives : goal.choose-returns-clause-gives
+choose-returns-clause-gives g t c =
     let l = c.loop-selector in
     let whole : c.as_slice-selector-items.result.now ≡ c.args.selectors.now = c.as_slice-selector-items.ensures in
     let none : drop l.selector-index c.as_slice-selector-items.result.now ≡ [] = grind (arith, common_steps) in
-    rw (← whole) (chosen_end (setting_of (g.P.Patterns.patterns c.args.rx.now) c.args.root.now) (seen c.args.node.now) _ l.out.items l.invariant.2 (subst (λ r. Covers (grown (map seen c.args.out.now.items) (chosen (setting_of (g.P.Patterns.patterns c.args.rx.now) c.args.root.now) c.as_slice-selector-items.result.now (seen c.args.node.now))) (grown (map seen l.out.items) (chosen (setting_of (g.P.Patterns.patterns c.args.rx.now) c.args.root.now) r (seen c.args.node.now)))) none l.invariant.0))
+    rw (← whole) (chosen_end (setting_of (g.P.Patterns.patterns c.args.rx.now) c.args.root.now) (way c.args.walk.now).0 _ l.out.items l.invariant.2 (subst (λ r. Covers (grown (map seen c.args.out.now.items) (chosen_at (setting_of (g.P.Patterns.patterns c.args.rx.now) c.args.root.now) c.as_slice-selector-items.result.now (way c.args.walk.now).0)) (grown (map seen l.out.items) (chosen_at (setting_of (g.P.Patterns.patterns c.args.rx.now) c.args.root.now) r (way c.args.walk.now).0))) none l.invariant.0))
+
+pub pick-returns-in-Name-clause-gives : goal.pick-returns-in-Name-clause-gives
+pick-returns-in-Name-clause-gives g t c =
+    let n = (way c.args.walk.now).0 in
+    let is = ap (picked_at (setting_of (g.P.Patterns.patterns c.args.rx.now) c.args.root.now) n) (c.in-Name.is ∙ ap selector.Name (sym c.as_str.ensures)) ∙ picked-Name c.as_str.result.now (setting_of (g.P.Patterns.patterns c.args.rx.now) c.args.root.now) n in
+    grown_given c.add_named.result _ _ _ _ _ _ is c.add_named.ensures.gives
+
+pub pick-returns-in-Wildcard-clause-gives : goal.pick-returns-in-Wildcard-clause-gives
+pick-returns-in-Wildcard-clause-gives g t c =
+    let n = (way c.args.walk.now).0 in
+    let is = ap (picked_at (setting_of (g.P.Patterns.patterns c.args.rx.now) c.args.root.now) n) c.in-Wildcard.is ∙ picked-Wildcard (setting_of (g.P.Patterns.patterns c.args.rx.now) c.args.root.now) n in
+    grown_given c.add_children.result _ _ _ _ _ _ is c.add_children.ensures.gives
+
+pub pick-returns-in-Index-clause-gives : goal.pick-returns-in-Index-clause-gives
+pick-returns-in-Index-clause-gives g t c =
+    let n = (way c.args.walk.now).0 in
+    let is = ap (picked_at (setting_of (g.P.Patterns.patterns c.args.rx.now) c.args.root.now) n) c.in-Index.is in
+    let fits : SFits w64 c.in-Index.i = search rules in
+    rw is (answers-Index (setting_of (g.P.Patterns.patterns c.args.rx.now) c.args.root.now) n c.add_item.result _ _ _ _ c.in-Index.i (to_z w64 (of_z w64 c.in-Index.i)) c.add_item.ensures.gives (to_z-of_z w64 c.in-Index.i fits))
+
+pub pick-returns-in-Slice-clause-gives : goal.pick-returns-in-Slice-clause-gives
+pick-returns-in-Slice-clause-gives g t c =
+    let n = (way c.args.walk.now).0 in
+    let is = ap (picked_at (setting_of (g.P.Patterns.patterns c.args.rx.now) c.args.root.now) n) c.in-Slice.is ∙ picked-Slice c.in-Slice.slice (setting_of (g.P.Patterns.patterns c.args.rx.now) c.args.root.now) n in
+    grown_given c.add_slice.result _ _ _ _ _ _ is c.add_slice.ensures.gives
+
+pub pick-returns-in-Filter-clause-gives : goal.pick-returns-in-Filter-clause-gives
+pick-returns-in-Filter-clause-gives g t c =
+    let n = (way c.args.walk.now).0 in
+    let is = ap (picked_at (setting_of (g.P.Patterns.patterns c.args.rx.now) c.args.root.now) n) c.in-Filter.is ∙ picked-Filter c.in-Filter.test (setting_of (g.P.Patterns.patterns c.args.rx.now) c.args.root.now) n in
+    rw is c.sift.ensures.gives
+
+pub sift-returns-in_err-holds-clause-gives : goal.sift-returns-in_err-holds-clause-gives
+sift-returns-in_err-holds-clause-gives g t c =
+    let l = c.children in
+    let child = c.in-Some.child in
+    let cut : coming l.children ≡ branch_of child ∷ coming c.next.new.self = c.in-Some.ensures in
+    exit _ c.from_residual.result c.in_err-holds.field-0.0 _ _ _ c.from_residual.ensures.1
+    (fails_from _ _ _ _ _ _ l.invariant.1 (sifted_fault (setting_of (g.P.Patterns.patterns c.args.rx.now) c.args.root.now) (setting_of (g.P.Patterns.patterns c.children.rx) c.args.root.now) (same_setting (g.P.Patterns.patterns c.args.rx.now) (g.P.Patterns.patterns c.children.rx) c.args.root.now c.children.invariant.1) c.args.test.now (way c.args.walk.now).0 (grown (map seen c.args.out.now.items) (sifted (setting_of (g.P.Patterns.patterns c.args.rx.now) c.args.root.now) c.args.test.now (way c.args.walk.now).0 (children (way c.args.walk.now).0.1))) (map seen l.out.items) (branch_of child) _ _ cut l.invariant.0) c.in_err-holds.ensures.gives)
+
+pub sift-children-preserved-then-not-branch : goal.sift-children-preserved-then-not-branch
+sift-children-preserved-then-not-branch g t c =
+    let l = c.children in
+    let child = c.in-Some.child in
+    let cut : coming l.children ≡ branch_of child ∷ coming c.next.new.self = c.in-Some.ensures in
+    let bit : c.in_ok-holds.field-0 ≡ false = grind (arith, common_steps) in
+    let told = subst (λ b. Covers (test_meaning c.args.test.now (setting_of (g.P.Patterns.patterns c.children.rx) c.args.root.now) (branch_of child).1) (given b)) bit c.in_ok-holds.ensures.gives in (
+      sifted_skip (setting_of (g.P.Patterns.patterns c.args.rx.now) c.args.root.now) (setting_of (g.P.Patterns.patterns c.children.rx) c.args.root.now) (same_setting (g.P.Patterns.patterns c.args.rx.now) (g.P.Patterns.patterns c.children.rx) c.args.root.now c.children.invariant.1) c.args.test.now (way c.args.walk.now).0 (grown (map seen c.args.out.now.items) (sifted (setting_of (g.P.Patterns.patterns c.args.rx.now) c.args.root.now) c.args.test.now (way c.args.walk.now).0 (children (way c.args.walk.now).0.1))) (map seen l.out.items) (branch_of child) _ _ cut l.invariant.0 (seen_room l.out.items l.invariant.2) told,
+      asked_then _ _ _ l.invariant.1 c.in_ok-holds.ensures.asked,
+      l.invariant.2,
+      l.invariant.3,
+    )
+
+pub sift-children-preserved : goal.sift-children-preserved
+sift-children-preserved g t c =
+    let l = c.children in
+    let child = c.in-Some.child in
+    let cut : coming l.children ≡ branch_of child ∷ coming c.next.new.self = c.in-Some.ensures in
+    let bit : c.in_ok-holds.field-0 ≡ true = grind (arith, common_steps) in
+    let told = subst (λ b. Covers (test_meaning c.args.test.now (setting_of (g.P.Patterns.patterns c.children.rx) c.args.root.now) (branch_of child).1) (given b)) bit c.in_ok-holds.ensures.gives in
+    let added = subst (λ (w : Spot × List Spot). within (map seen l.out.items ++ spots_below w.0 (branch_of child ∷ [])) ≡ Ok (map seen c.add_child.new.out.items)) l.invariant.3 c.in_ok-add_child.ensures.gives in (
+      sifted_take (setting_of (g.P.Patterns.patterns c.args.rx.now) c.args.root.now) (setting_of (g.P.Patterns.patterns c.children.rx) c.args.root.now) (same_setting (g.P.Patterns.patterns c.args.rx.now) (g.P.Patterns.patterns c.children.rx) c.args.root.now c.children.invariant.1) c.args.test.now (way c.args.walk.now).0 (grown (map seen c.args.out.now.items) (sifted (setting_of (g.P.Patterns.patterns c.args.rx.now) c.args.root.now) c.args.test.now (way c.args.walk.now).0 (children (way c.args.walk.now).0.1))) (map seen l.out.items) (branch_of child) _ _ cut l.invariant.0 (map seen c.add_child.new.out.items) told (ap told_of added),
+      asked_then _ _ _ l.invariant.1 c.in_ok-holds.ensures.asked,
+      c.in_ok-add_child.ensures.room,
+      c.in_ok-add_child.ensures.same ∙ l.invariant.3,
+    )
+
+pub sift-returns-in_err-add_child-clause-gives : goal.sift-returns-in_err-add_child-clause-gives
+sift-returns-in_err-add_child-clause-gives g t c =
+    let l = c.children in
+    let child = c.in-Some.child in
+    let cut : coming l.children ≡ branch_of child ∷ coming c.next.new.self = c.in-Some.ensures in
+    let bit : c.in_ok-holds.field-0 ≡ true = grind (arith, common_steps) in
+    let told = subst (λ b. Covers (test_meaning c.args.test.now (setting_of (g.P.Patterns.patterns c.children.rx) c.args.root.now) (branch_of child).1) (given b)) bit c.in_ok-holds.ensures.gives in
+    let refused = subst (λ (w : Spot × List Spot). Meant (cause c.in_err-add_child.field-0.0) (within (map seen l.out.items ++ spots_below w.0 (branch_of child ∷ [])))) l.invariant.3 c.in_err-add_child.ensures.gives in
+    exit _ c.from_residual-in_err-add_child.result c.in_err-add_child.field-0.0 _ _ _ c.from_residual-in_err-add_child.ensures.1
+    (fails_grows c.in_err-add_child.field-0.0 _ _ _ _ (sifted_wide (setting_of (g.P.Patterns.patterns c.args.rx.now) c.args.root.now) (setting_of (g.P.Patterns.patterns c.children.rx) c.args.root.now) (same_setting (g.P.Patterns.patterns c.args.rx.now) (g.P.Patterns.patterns c.children.rx) c.args.root.now c.children.invariant.1) c.args.test.now (way c.args.walk.now).0 (grown (map seen c.args.out.now.items) (sifted (setting_of (g.P.Patterns.patterns c.args.rx.now) c.args.root.now) c.args.test.now (way c.args.walk.now).0 (children (way c.args.walk.now).0.1))) (map seen l.out.items) (branch_of child) _ _ cut l.invariant.0 told) refused)
+
+pub sift-returns-clause-gives : goal.sift-returns-clause-gives
+sift-returns-clause-gives g t c =
+    let l = c.children in
+    let none : coming l.children ≡ [] = c.in_default.ensures in
+    sifted_end (setting_of (g.P.Patterns.patterns c.args.rx.now) c.args.root.now) c.args.test.now (way c.args.walk.now).0 _ l.out.items l.invariant.2 (subst (λ cs. Covers (grown (map seen c.args.out.now.items) (sifted (setting_of (g.P.Patterns.patterns c.args.rx.now) c.args.root.now) c.args.test.now (way c.args.walk.now).0 (children (way c.args.walk.now).0.1))) (grown (map seen l.out.items) (sifted (setting_of (g.P.Patterns.patterns c.args.rx.now) c.args.root.now) c.args.test.now (way c.args.walk.now).0 cs))) none l.invariant.0)
 
 pub found_from-returns-in_err-nodes-clause-gives : goal.found_from-returns-in_err-nodes-clause-gives
 found_from-returns-in_err-nodes-clause-gives g t c =
-    let from : c.match-start.value.now ≡ started c.args.start (setting_of (g.P.Patterns.patterns c.args.rx.now) c.args.root.now) c.args.current.now =
-    elim c.match-start.branch [ found_from-in-Root w ↦ ap (λ (v : Bor Json). v.now) w.value-is ∙ sym (ap (λ s. started s (setting_of (g.P.Patterns.patterns c.args.rx.now) c.args.root.now) c.args.current.now) w.in-Root.is) | found_from-in-Current w ↦ ap (λ (v : Bor Json). v.now) w.value-is ∙ sym (ap (λ s. started s (setting_of (g.P.Patterns.patterns c.args.rx.now) c.args.root.now) c.args.current.now) w.in-Current.is) ] in
-    let run : run_all (setting_of (g.P.Patterns.patterns c.args.rx.now) c.args.root.now) c.args.segments.now (([], c.match-start.value.now) ∷ []) ≡ found_all (setting_of (g.P.Patterns.patterns c.args.rx.now) c.args.root.now) c.args.current.now c.args.start c.args.segments.now =
-    ap (λ j. run_all (setting_of (g.P.Patterns.patterns c.args.rx.now) c.args.root.now) c.args.segments.now (([], j) ∷ [])) from ∙ sym (found-run (setting_of (g.P.Patterns.patterns c.args.rx.now) c.args.root.now) c.args.current.now c.args.start c.args.segments.now) in
+    let is : outcome_map found_in (found_all (setting_of (g.P.Patterns.patterns c.args.rx.now) c.args.root.now) c.args.current.now c.args.start c.args.segments.now) ≡ outcome_map spots_found (spots_after_all (setting_of (g.P.Patterns.patterns c.args.rx.now) c.args.root.now) c.args.segments.now ((None, c.begin-value.result.now) ∷ []))
+    = found-spots (setting_of (g.P.Patterns.patterns c.args.rx.now) c.args.root.now) c.args.current.now c.args.start c.args.segments.now
+    ∙ ap (λ j. outcome_map spots_found (spots_after_all (setting_of (g.P.Patterns.patterns c.args.rx.now) c.args.root.now) c.args.segments.now ((None, j) ∷ []))) (sym c.begin-value.ensures) in
     exit found_seen c.from_residual.result c.in_err-nodes.field-0.0 _ _ _ c.from_residual.ensures.1
-    (fails_map _ found_in _ _ _ _ (ap (outcome_map found_in) (sym run)) c.in_err-nodes.ensures.gives)
+    (fails_map _ spots_found _ _ _ _ is c.in_err-nodes.ensures.gives)
 
 pub found_from-returns-clause-gives : goal.found_from-returns-clause-gives
 found_from-returns-clause-gives g t c =
-    let from : c.match-start.value.now ≡ started c.args.start (setting_of (g.P.Patterns.patterns c.args.rx.now) c.args.root.now) c.args.current.now =
-    elim c.match-start.branch [ found_from-in-Root w ↦ ap (λ (v : Bor Json). v.now) w.value-is ∙ sym (ap (λ s. started s (setting_of (g.P.Patterns.patterns c.args.rx.now) c.args.root.now) c.args.current.now) w.in-Root.is) | found_from-in-Current w ↦ ap (λ (v : Bor Json). v.now) w.value-is ∙ sym (ap (λ s. started s (setting_of (g.P.Patterns.patterns c.args.rx.now) c.args.root.now) c.args.current.now) w.in-Current.is) ] in
-    let run : run_all (setting_of (g.P.Patterns.patterns c.args.rx.now) c.args.root.now) c.args.segments.now (([], c.match-start.value.now) ∷ []) ≡ found_all (setting_of (g.P.Patterns.patterns c.args.rx.now) c.args.root.now) c.args.current.now c.args.start c.args.segments.now =
-    ap (λ j. run_all (setting_of (g.P.Patterns.patterns c.args.rx.now) c.args.root.now) c.args.segments.now (([], j) ∷ [])) from ∙ sym (found-run (setting_of (g.P.Patterns.patterns c.args.rx.now) c.args.root.now) c.args.current.now c.args.start c.args.segments.now) in
-    let seen_all : found_seen c.found_among.result ≡ found_in (map seen c.in_ok-nodes.nodes.items) = grind (arith, common_steps) in
-    rw (seen_all, ← run) (through_map found_in _ _ c.in_ok-nodes.ensures.gives)
+    let is : outcome_map found_in (found_all (setting_of (g.P.Patterns.patterns c.args.rx.now) c.args.root.now) c.args.current.now c.args.start c.args.segments.now) ≡ outcome_map spots_found (spots_after_all (setting_of (g.P.Patterns.patterns c.args.rx.now) c.args.root.now) c.args.segments.now ((None, c.begin-value.result.now) ∷ []))
+    = found-spots (setting_of (g.P.Patterns.patterns c.args.rx.now) c.args.root.now) c.args.current.now c.args.start c.args.segments.now
+    ∙ ap (λ j. outcome_map spots_found (spots_after_all (setting_of (g.P.Patterns.patterns c.args.rx.now) c.args.root.now) c.args.segments.now ((None, j) ∷ []))) (sym c.begin-value.ensures) in
+    let seen_all : found_seen c.found_among.result ≡ spots_found (map seen c.in_ok-nodes.nodes.items) = grind (arith, common_steps) in
+    rw (seen_all, is) (through_map spots_found _ _ c.in_ok-nodes.ensures.gives)
 
 pub hold_each-returns-in_err-bit-clause-gives : goal.hold_each-returns-in_err-bit-clause-gives
 hold_each-returns-in_err-bit-clause-gives g t c =
@@ -207,78 +341,6 @@ holds-returns-in_ok-pattern-in-Search-clause-gives g t c =
     let later = same_setting _ _ c.args.root.now c.in_ok-text-in-Search.ensures.asked in
     let pair = pair_given (setting_of (g.P.Patterns.patterns c.args.rx.now) c.args.root.now) _ later c.args.current.now c.in-Search.text c.in-Search.pattern _ _ c.in_ok-text-in-Search.ensures.gives c.in_ok-pattern-in-Search.ensures.gives in
     rw is (answers_later (λ told p. searched_in told false p.0 p.1) _ _ _ _ _ _ _ c.in_ok-text-in-Search.ensures.asked c.in_ok-pattern-in-Search.ensures.asked pair c.is_match-in-Search.ensures.gives)
-
-pub keep_where-returns-in_err-holds-clause-gives : goal.keep_where-returns-in_err-holds-clause-gives
-keep_where-returns-in_err-holds-clause-gives g t c =
-    let l = c.loop-child in
-    let x : Branch = c.child-item.result in
-    let cut : drop l.child-index c.as_slice-child-items.result.now ≡ x ∷ drop (l.child-index + 1) c.as_slice-child-items.result.now = grind (arith, common_steps) in
-    exit branches_seen c.from_residual-in_err-holds.result c.in_err-holds.field-0.0 _ _ _ c.from_residual-in_err-holds.ensures.1
-    (rw (← l.invariant.2) (fails_from _ _ _ _ _ _ l.invariant.1 (kept_fault (setting_of (g.P.Patterns.patterns c.args.rx.now) c.args.root.now) (setting_of (g.P.Patterns.patterns c.loop-child.rx) c.args.root.now) (same_setting (g.P.Patterns.patterns c.args.rx.now) (g.P.Patterns.patterns c.loop-child.rx) c.args.root.now c.loop-child.invariant.1) c.args.test.now (kept_all (setting_of (g.P.Patterns.patterns c.args.rx.now) c.args.root.now) c.args.test.now (map branch_of c.as_slice-child-items.result.now)) l.kept.items l.kept.items x _ _ cut l.invariant.0) c.in_err-holds.ensures.gives))
-
-pub keep_where-loop-child-preserved-then-not-branch : goal.keep_where-loop-child-preserved-then-not-branch
-keep_where-loop-child-preserved-then-not-branch g t c =
-    let l = c.loop-child in
-    let x : Branch = c.child-item.result in
-    let cut : drop l.child-index c.as_slice-child-items.result.now ≡ x ∷ drop (l.child-index + 1) c.as_slice-child-items.result.now = grind (arith, common_steps) in
-    let no : c.in_ok-holds.field-0 ≡ false = grind (arith, common_steps) in (
-      kept_skip (setting_of (g.P.Patterns.patterns c.args.rx.now) c.args.root.now) (setting_of (g.P.Patterns.patterns c.loop-child.rx) c.args.root.now) (same_setting (g.P.Patterns.patterns c.args.rx.now) (g.P.Patterns.patterns c.loop-child.rx) c.args.root.now c.loop-child.invariant.1) c.args.test.now (kept_all (setting_of (g.P.Patterns.patterns c.args.rx.now) c.args.root.now) c.args.test.now (map branch_of c.as_slice-child-items.result.now)) l.kept.items l.kept.items x _ _ cut l.invariant.0 (subst (λ b. Covers (test_meaning c.args.test.now (setting_of (g.P.Patterns.patterns c.loop-child.rx) c.args.root.now) (branch_of x).1) (given b)) no c.in_ok-holds.ensures.gives),
-      asked_then _ _ _ l.invariant.1 c.in_ok-holds.ensures.asked,
-      l.invariant.2,
-    )
-
-pub keep_where-loop-child-preserved : goal.keep_where-loop-child-preserved
-keep_where-loop-child-preserved g t c =
-    let l = c.loop-child in
-    let x : Branch = c.child-item.result in
-    let cut : drop l.child-index c.as_slice-child-items.result.now ≡ x ∷ drop (l.child-index + 1) c.as_slice-child-items.result.now = grind (arith, common_steps) in
-    let yes : c.in_ok-holds.field-0 ≡ true = grind (arith, common_steps) in (
-      kept_take (setting_of (g.P.Patterns.patterns c.args.rx.now) c.args.root.now) (setting_of (g.P.Patterns.patterns c.loop-child.rx) c.args.root.now) (same_setting (g.P.Patterns.patterns c.args.rx.now) (g.P.Patterns.patterns c.loop-child.rx) c.args.root.now c.loop-child.invariant.1) c.args.test.now (kept_all (setting_of (g.P.Patterns.patterns c.args.rx.now) c.args.root.now) c.args.test.now (map branch_of c.as_slice-child-items.result.now)) l.kept.items c.push.new.self.items x _ _ cut l.invariant.0 c.in_ok-push.ensures.items (subst (λ b. Covers (test_meaning c.args.test.now (setting_of (g.P.Patterns.patterns c.loop-child.rx) c.args.root.now) (branch_of x).1) (given b)) yes c.in_ok-holds.ensures.gives),
-      asked_then _ _ _ l.invariant.1 c.in_ok-holds.ensures.asked,
-      l.invariant.2,
-    )
-
-pub keep_where-returns-clause-gives : goal.keep_where-returns-clause-gives
-keep_where-returns-clause-gives g t c =
-    let l = c.loop-child in
-    let none : drop l.child-index c.as_slice-child-items.result.now ≡ [] = grind (arith, common_steps) in
-    rw (← l.invariant.2) (kept_end (setting_of (g.P.Patterns.patterns c.args.rx.now) c.args.root.now) c.args.test.now _ _ (subst (λ r. Covers (kept_all (setting_of (g.P.Patterns.patterns c.args.rx.now) c.args.root.now) c.args.test.now (map branch_of c.as_slice-child-items.result.now)) (joined (map branch_of l.kept.items) (kept_all (setting_of (g.P.Patterns.patterns c.args.rx.now) c.args.root.now) c.args.test.now (map branch_of r)))) none l.invariant.0))
-
-pub nodes_after-returns-in_err-nodes-clause-gives : goal.nodes_after-returns-in_err-nodes-clause-gives
-nodes_after-returns-in_err-nodes-clause-gives g t c =
-    let l = c.loop-segment in
-    let whole : c.as_slice-segment-items.result.now ≡ c.args.segments.now = c.as_slice-segment-items.ensures in
-    let x : Segment = c.segment-item.result in
-    let cut : drop l.segment-index c.as_slice-segment-items.result.now ≡ x ∷ drop (l.segment-index + 1) c.as_slice-segment-items.result.now = grind (arith, common_steps) in
-    exit all_seen c.from_residual-in_err-nodes.result c.in_err-nodes.field-0.0 _ _ _ c.from_residual-in_err-nodes.ensures.1
-    (rw (← whole) (fails_from _ _ _ _ _ _ l.invariant.1 (run_fault (setting_of (g.P.Patterns.patterns c.args.rx.now) c.args.root.now) (setting_of (g.P.Patterns.patterns c.loop-segment.rx) c.args.root.now) (same_setting (g.P.Patterns.patterns c.args.rx.now) (g.P.Patterns.patterns c.loop-segment.rx) c.args.root.now c.loop-segment.invariant.1) (run_all (setting_of (g.P.Patterns.patterns c.args.rx.now) c.args.root.now) c.as_slice-segment-items.result.now (seen c.args.origin ∷ [])) x _ _ cut (map seen l.nodes.items) l.invariant.0) (subst (λ (ns : List Held). Fails c.in_err-nodes.field-0.0 (segment_meaning x (setting_of (g.P.Patterns.patterns c.loop-segment.rx) c.args.root.now) (map seen ns)) (g.P.Patterns.patterns c.loop-segment.rx) (g.P.Patterns.patterns c.after_segment.new.rx)) c.as_slice.ensures.value c.in_err-nodes.ensures.gives)))
-
-pub nodes_after-loop-segment-preserved : goal.nodes_after-loop-segment-preserved
-nodes_after-loop-segment-preserved g t c =
-    let l = c.loop-segment in
-    let x : Segment = c.segment-item.result in
-    let cut : drop l.segment-index c.as_slice-segment-items.result.now ≡ x ∷ drop (l.segment-index + 1) c.as_slice-segment-items.result.now = grind (arith, common_steps) in (
-      run_step (setting_of (g.P.Patterns.patterns c.args.rx.now) c.args.root.now) (setting_of (g.P.Patterns.patterns c.loop-segment.rx) c.args.root.now) (same_setting (g.P.Patterns.patterns c.args.rx.now) (g.P.Patterns.patterns c.loop-segment.rx) c.args.root.now c.loop-segment.invariant.1) (run_all (setting_of (g.P.Patterns.patterns c.args.rx.now) c.args.root.now) c.as_slice-segment-items.result.now (seen c.args.origin ∷ [])) x _ _ cut (map seen l.nodes.items) l.invariant.0 _ (subst (λ (ns : List Held). Covers (segment_meaning x (setting_of (g.P.Patterns.patterns c.loop-segment.rx) c.args.root.now) (map seen ns)) (given (map seen c.in_ok-nodes.nodes.items))) c.as_slice.ensures.value c.in_ok-nodes.ensures.gives),
-      asked_then _ _ _ l.invariant.1 c.in_ok-nodes.ensures.asked,
-    )
-
-pub nodes_after-returns-clause-gives : goal.nodes_after-returns-clause-gives
-nodes_after-returns-clause-gives g t c =
-    let l = c.loop-segment in
-    let whole : c.as_slice-segment-items.result.now ≡ c.args.segments.now = c.as_slice-segment-items.ensures in
-    let none : drop l.segment-index c.as_slice-segment-items.result.now ≡ [] = grind (arith, common_steps) in
-    rw (← whole) (run_end (setting_of (g.P.Patterns.patterns c.args.rx.now) c.args.root.now) _ _ (subst (λ r. Covers (run_all (setting_of (g.P.Patterns.patterns c.args.rx.now) c.args.root.now) c.as_slice-segment-items.result.now (seen c.args.origin ∷ [])) (run_all (setting_of (g.P.Patterns.patterns c.args.rx.now) c.args.root.now) r (map seen l.nodes.items))) none l.invariant.0))
-
-pub pick-returns-in_ok-named-in-Name-clause-gives : goal.pick-returns-in_ok-named-in-Name-clause-gives
-pick-returns-in_ok-named-in-Name-clause-gives g t c =
-    let is = ap (λ s. selector_meaning s (setting_of (g.P.Patterns.patterns c.args.rx.now) c.args.root.now) c.args.value.now) c.in-Name.is ∙ selector-Name c.in-Name.name (setting_of (g.P.Patterns.patterns c.args.rx.now) c.args.root.now) c.args.value.now in
-    let found = c.in_ok-named-in-Name.ensures in
-    rw is (ap given (grind (arith, common_steps, found)))
-
-pub pick-returns-in-Filter-clause-gives : goal.pick-returns-in-Filter-clause-gives
-pick-returns-in-Filter-clause-gives g t c =
-    let is = ap (λ s. selector_meaning s (setting_of (g.P.Patterns.patterns c.args.rx.now) c.args.root.now) c.args.value.now) c.in-Filter.is ∙ selector-Filter c.in-Filter.test (setting_of (g.P.Patterns.patterns c.args.rx.now) c.args.root.now) c.args.value.now in
-    rw is c.keep_where.ensures.gives
 
 pub value_of-returns-in_err-found-in-Query-clause-gives : goal.value_of-returns-in_err-found-in-Query-clause-gives
 value_of-returns-in_err-found-in-Query-clause-gives g t c =
