@@ -1,0 +1,13 @@
+pub mod Lists
+pub mod Runs
+pub mod Quoted
+pub mod Sound
+pub mod Complete
+pub mod Contract
+pub mod Texts
+pub mod Integers
+pub mod Truth
+pub mod Meanings
+pub mod Loops
+pub mod Searches
+pub mod OneForm

@@ -1,0 +1,10 @@
+pub mod Grammar
+pub mod Criteria
+pub mod Words
+pub mod Reading
+pub mod Parsing
+pub mod Comparing
+pub mod Meaning
+pub mod Rendering
+pub mod Holding
+pub mod Seen
