@@ -1,0 +1,9 @@
+use Rattle.std.proofs.Common.{◌≡◌, length}
+use Rattle.arz_request.specs.MediaTypes.{skip_blanks}
+use Rattle.arz_request.proofs.media_types.trimmed_start.Given as goal
+
+abbrev pub invariant-blanks : goal.invariant-blanks
+invariant-blanks l = skip_blanks l.text ≡ skip_blanks l.rest
+
+abbrev pub decreases-blanks : goal.decreases-blanks
+decreases-blanks l = length l.rest

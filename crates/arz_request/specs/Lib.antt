@@ -1,0 +1,8 @@
+pub mod Causes
+pub mod Fits
+pub mod MediaTypes
+pub mod Named
+pub mod Parameters
+pub mod Payloads
+pub mod Requests
+pub mod Shallow
