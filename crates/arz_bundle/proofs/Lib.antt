@@ -1,6 +1,7 @@
 pub mod ComponentForms
 pub mod DescriptionFacts
 pub mod FormPaths
+pub mod FormsTold
 pub mod KindFacts
 pub mod LoadingLaws
 pub mod Noting
@@ -8,6 +9,7 @@ pub mod Overlaying
 pub mod OverlaysTold
 pub mod Risen
 pub mod RuleFacts
+pub mod Sourcing
 pub mod Stages
 pub mod ValidBundles
 pub mod Wholes

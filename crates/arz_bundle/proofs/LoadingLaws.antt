@@ -1,13 +1,16 @@
 -- Loading comes to something, and what is loaded is valid.
 use Rattle.std.proofs.Common.{◌≡◌, ◌≢◌, ◌⊎◌, inl, inr, ◌≤◌, ℕ, List, [], ◌∷◌, length, take, codes, Bool, true, false, Option, None, Some, Result, Ok, Err, All, refl, sym, ◌∙◌, subst, ◌+◌}
 use Rattle.std.proofs.lemmas.Bool.{cases_lt}
+use Rattle.std.proofs.lemmas.List.Elements.{All-nil, All-cons}
 use Rattle.std.proofs.lemmas.Str.{IsUtf8-from_is_utf8, is_utf8-from_IsUtf8}
 use Rattle.std.specs.Str.{IsUtf8, is_utf8}
 use Rattle.serde_json.specs.Data.{Data}
 use Rattle.serde_json.specs.Read.{read}
+use Rattle.arz_json.specs.Look.{items_at}
 use Rattle.arz_json.specs.Reading.{Reads, tree_of}
 use Rattle.arz_json.specs.Tree.{IsWithin, has_form}
 use Rattle.arz_json.specs.declared.Json.{Json}
+use Rattle.arz_json.specs.declared.Named.{Named}
 use Rattle.arz_json.specs.declared.Refusal.{Refusal}
 use Rattle.arz_json.proofs.Forms.{IsWithin-Reads}
 use Rattle.arz_overlay.proofs.Overlays.{overlaid-within}
@@ -21,13 +24,13 @@ use Rattle.arz_flow.specs.Valid.{IsValid}
 use Rattle.arz_bundle.specs.declared.fault.LoadFault.{LoadFault}
 use Rattle.arz_bundle.specs.declared.fault.LoadFault.TheVariants.{File, Refused, Pattern, Memory}
 use Rattle.arz_bundle.specs.Laws.{MissingFail, LoadsSome, GivesSome, LoadsValid, GivesStatuses}
-use Rattle.arz_bundle.specs.Loading.{file_limit, IsFile, NoFile, Tells, Judged, Reading, Taken, Applied, Overlaid, ReadingOverlaid, source_name, source_label, source_path, AfterSource, FromSource, AfterDescription, FromDescription, AfterSetup, AfterReplies}
+use Rattle.arz_bundle.specs.Loading.{file_limit, IsFile, NoFile, Tells, Judged, Reading, Taken, Applied, Overlaid, ReadingOverlaid, source_name, named, FromSources, AfterSources, AfterBuilt, AfterDescription, FromDescription, AfterSetup, AfterReplies}
 use Rattle.arz_doc.proofs.Numbered.{some_test}
 use Rattle.arz_bundle.specs.Overlays.{Listed, overlays_for, overlay_label}
-use Rattle.arz_bundle.specs.Phases.{setup_told, description_told, IsDescribed, unbuilt_told, source_told, replies_told}
+use Rattle.arz_bundle.specs.Phases.{setup_told, description_told, IsDescribed, unbuilt_told, source_label, source_told, steps_told, form_told, replies_told}
 use Rattle.arz_bundle.specs.Replies.{HasStatus, replies_of}
-use Rattle.arz_bundle.specs.Setup.{description_path, bundle_of}
-use Rattle.arz_bundle.proofs.ValidBundles.{valid-bundle, reply-items, statuses}
+use Rattle.arz_bundle.specs.Setup.{description_path, path_of_source, bundle_of}
+use Rattle.arz_bundle.proofs.ValidBundles.{Nests, valid-bundle, reply-items, statuses}
 
 -- ---- whether bytes are a file with a tree
 
@@ -147,19 +150,31 @@ module _ (keeps : KeepsWithin) (old new : PatternsView) where
         → IsSome (ReadingOverlaid before now old new path label os Next)
     document-some path label os Next some = reading-some label (λ tree. Overlaid before now old new os tree Next) (overlaid-some Next some os) before now path missing
 
-    source-some : (setup description : Json) → IsSome (FromSource before now old new setup description)
-    source-some setup description =
-        document-some (source_path setup description) (source_label description) (overlays_for (Some (source_name description)) setup) (AfterSource setup description)
-        (λ source within.
-        let bundle = bundle_of setup description source (source_name description) in
-        tells-some (source_told (source_label description) description source) (λ x. x ≡ Ok bundle) (Ok bundle, refl, ok-some bundle))
+    sources-some : {A : Type 0} (setup : Json) (described : List Json) (Next : List Named → Result A LoadFault → Type 0) → ((sources : List Named) → IsSome (Next sources))
+        → IsSome (FromSources before now old new setup described Next)
+    sources-some setup [] Next some = some []
+    sources-some {A} setup (source ∷ described) Next some =
+        let label = source_label (source_name source) in
+        let Rest : Json → Result A LoadFault → Type 0 = λ root. FromSources before now old new setup described (λ sources. Next (named source root ∷ sources)) in
+        document-some (path_of_source setup source) label (overlays_for (Some (source_name source)) setup) (λ root. Tells (source_told label root) (Rest root))
+        (λ root within. tells-some (source_told label root) (Rest root)
+        (sources-some setup described (λ sources. Next (named source root ∷ sources)) (λ sources. some (named source root ∷ sources))))
+
+    after-some : (setup description : Json) (sources : List Named) → IsSome (AfterSources setup description sources)
+    after-some setup description sources =
+        let bundle = bundle_of setup description sources in
+        let Made : Result Bundle LoadFault → Type 0 = λ x. x ≡ Ok bundle in
+        tells-some (steps_told setup description sources) (Tells (form_told description sources) Made) (tells-some (form_told description sources) Made (Ok bundle, refl, ok-some bundle))
+
+    built-some : (setup description : Json) → IsSome (AfterBuilt before now old new setup description)
+    built-some setup description = sources-some setup (items_at (codes "sourceDescriptions") description) (AfterSources setup description) (after-some setup description)
 
     described-some : (setup description : Json) → IsSome (AfterDescription before now old new setup description)
     described-some setup description =
         let test = some_test description in
         let told = description_told test.0 setup description in
-        let Then = FromSource before now old new setup description in
-        let some = tells-some told (Tells (unbuilt_told setup description) Then) (tells-some (unbuilt_told setup description) Then (source-some setup description)) in
+        let Then = AfterBuilt before now old new setup description in
+        let some = tells-some told (Tells (unbuilt_told setup description) Then) (tells-some (unbuilt_told setup description) Then (built-some setup description)) in
         (some.0, (told, (test.0, test.1, refl), some.1), some.2)
 
     description-some : (setup : Json) → IsSome (FromDescription before now old new setup)
@@ -226,22 +241,34 @@ module _ (before now : FilesView) (old new : PatternsView) where
     document-gave : (path label : List ℕ) (os : List Listed) → ReadingOverlaid before now old new path label os Next (Ok a) → P
     document-gave path label os came = reading-gave before now path label (λ tree. Overlaid before now old new os tree Next) a P (overlaid-gave os) came
 
+  -- what follows the sources, where something is given
+  sources-gave : {A : Type 0} (a : A) (P : Type 0) (setup : Json) (described : List Json) (Next : List Named → Result A LoadFault → Type 0)
+      → ((sources : List Named) → All Nests sources → Next sources (Ok a) → P) → FromSources before now old new setup described Next (Ok a) → P
+  sources-gave a P setup [] Next goes came = goes [] (All-nil Nests) came
+  sources-gave {A} a P setup (source ∷ described) Next goes came =
+      let label = source_label (source_name source) in
+      let Rest : Json → Result A LoadFault → Type 0 = λ root. FromSources before now old new setup described (λ sources. Next (named source root ∷ sources)) in
+      document-gave a P (λ root. Tells (source_told label root) (Rest root))
+      (λ root within tells. tells-gave a P (source_told label root) (Rest root) tells
+      (λ none rest. sources-gave a P setup described (λ sources. Next (named source root ∷ sources))
+      (λ sources each. goes (named source root ∷ sources) (All-cons Nests (named source root) sources within each)) rest))
+      (path_of_source setup source) label (overlays_for (Some (source_name source)) setup) came
+
   module _ (b : Bundle) where
-    source-valid : (setup description : Json) → IsDescribed setup description None → IsWithin 127 setup → IsWithin 127 description
-        → FromSource before now old new setup description (Ok b) → IsValid b
-    source-valid setup description described setup-within description-within came =
-        document-gave b (IsValid b) (AfterSource setup description)
-        (λ source within goes. tells-gave b (IsValid b) (source_told (source_label description) description source) _ goes
-        (λ none is.
-        subst IsValid (sym (same-ok b (bundle_of setup description source (source_name description)) is)) (valid-bundle setup description source described setup-within description-within within)))
-        (source_path setup description) (source_label description) (overlays_for (Some (source_name description)) setup) came
+    built-valid : (setup description : Json) → IsDescribed setup description None → IsWithin 127 setup → IsWithin 127 description
+        → AfterBuilt before now old new setup description (Ok b) → IsValid b
+    built-valid setup description described setup-within description-within came =
+        sources-gave b (IsValid b) setup (items_at (codes "sourceDescriptions") description) (AfterSources setup description)
+        (λ sources within goes. tells-gave b (IsValid b) (steps_told setup description sources) _ goes
+        (λ none later. tells-gave b (IsValid b) (form_told description sources) _ later
+        (λ built is. subst IsValid (sym (same-ok b (bundle_of setup description sources) is)) (valid-bundle setup description sources described setup-within description-within within)))) came
 
     description-valid : (setup : Json) → IsWithin 127 setup → FromDescription before now old new setup (Ok b) → IsValid b
     description-valid setup within came =
         document-gave b (IsValid b) (AfterDescription before now old new setup)
         (λ tree tree-within (told, described, tells). tells-gave b (IsValid b) told _ tells
-        (λ none later. tells-gave b (IsValid b) (unbuilt_told setup tree) (FromSource before now old new setup tree) later
-        (λ built goes. source-valid setup tree (subst (λ o. IsDescribed setup tree o) none described) within tree-within goes)))
+        (λ none later. tells-gave b (IsValid b) (unbuilt_told setup tree) (AfterBuilt before now old new setup tree) later
+        (λ built goes. built-valid setup tree (subst (λ o. IsDescribed setup tree o) none described) within tree-within goes)))
         (description_path setup) (codes "arazzo") (overlays_for None setup) came
 
 pub loads_valid : LoadsValid

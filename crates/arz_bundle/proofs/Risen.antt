@@ -1,6 +1,8 @@
 -- A fault that comes of files tells of a count that has risen.
 use Rattle.std.proofs.Common.{◌≡◌, inl, inr, ℕ, List, [], ◌∷◌, codes, Option, Some, None, Result, Ok, Err, sym, ◌∙◌, subst}
+use Rattle.arz_json.specs.Look.{items_at}
 use Rattle.arz_json.specs.declared.Json.{Json}
+use Rattle.arz_json.specs.declared.Named.{Named}
 use Rattle.arz_json.specs.declared.Refusal.{Refusal}
 use Rattle.arz_overlay.specs.Documents.{Document, document}
 use Rattle.arz_overlay.specs.Overlaid.{overlaid}
@@ -10,11 +12,11 @@ use Rattle.arz_world.specs.declared.Reply.{Reply}
 use Rattle.arz_flow.specs.declared.bundle.Bundle.{Bundle}
 use Rattle.arz_bundle.specs.declared.fault.LoadFault.{LoadFault}
 use Rattle.arz_bundle.specs.declared.fault.LoadFault.TheVariants.{File, Refused, Pattern, Memory}
-use Rattle.arz_bundle.specs.Loading.{Tells, Reading, Taken, Applied, Overlaid, ReadingOverlaid, source_name, source_label, source_path, AfterSource, FromSource, AfterDescription, FromDescription, AfterSetup, Loads, AfterReplies, Gives_replies}
+use Rattle.arz_bundle.specs.Loading.{Tells, Reading, Taken, Applied, Overlaid, ReadingOverlaid, source_name, named, FromSources, AfterSources, AfterBuilt, AfterDescription, FromDescription, AfterSetup, Loads, AfterReplies, Gives_replies}
 use Rattle.arz_bundle.specs.Overlays.{Listed, overlays_for, overlay_label}
-use Rattle.arz_bundle.specs.Phases.{setup_told, unbuilt_told, source_told, replies_told}
+use Rattle.arz_bundle.specs.Phases.{setup_told, unbuilt_told, source_label, source_told, steps_told, form_told, replies_told}
 use Rattle.arz_bundle.specs.Replies.{replies_of}
-use Rattle.arz_bundle.specs.Setup.{description_path, bundle_of}
+use Rattle.arz_bundle.specs.Setup.{description_path, path_of_source, bundle_of}
 
 module _ (before now : FilesView) (old new : PatternsView) where
   abbrev pub Caused : LoadFault → Type 0
@@ -73,22 +75,35 @@ module _ (before now : FilesView) (old new : PatternsView) {A : Type 0} (x : Res
   document-caused path label os Next w came =
       reading-caused path label (λ tree. Overlaid before now old new os tree Next) (λ tree. overlaid-caused os tree Next w) came
 
+  sources-caused : (setup : Json) (described : List Json) (Next : List Named → Result A LoadFault → Type 0) → ((sources : List Named) → Next sources x → HasCause before now old new x)
+      → FromSources before now old new setup described Next x → HasCause before now old new x
+  sources-caused setup [] Next w goes = w [] goes
+  sources-caused setup (source ∷ described) Next w came =
+      let label = source_label (source_name source) in
+      let Rest : Json → Result A LoadFault → Type 0 = λ root. FromSources before now old new setup described (λ sources. Next (named source root ∷ sources)) in
+      document-caused (path_of_source setup source) label (overlays_for (Some (source_name source)) setup) (λ root. Tells (source_told label root) (Rest root))
+      (λ root. tells-caused (source_told label root) (Rest root)
+      (sources-caused setup described (λ sources. Next (named source root ∷ sources)) (λ sources. w (named source root ∷ sources)))) came
+
   -- what is given has no fault
   given-caused : (a : A) → x ≡ Ok a → HasCause before now old new x
   given-caused a is fault is' = absurd (cc)
 
 module _ (before now : FilesView) (old new : PatternsView) (x : Result Bundle LoadFault) where
-  source-caused : (setup description : Json) → FromSource before now old new setup description x → HasCause before now old new x
-  source-caused setup description came =
-      document-caused before now old new x (source_path setup description) (source_label description) (overlays_for (Some (source_name description)) setup) (AfterSource setup description)
-      (λ source. tells-caused before now old new x (source_told (source_label description) description source) _
-      (given-caused before now old new x (bundle_of setup description source (source_name description)))) came
+  after-caused : (setup description : Json) (sources : List Named) → AfterSources setup description sources x → HasCause before now old new x
+  after-caused setup description sources came =
+      tells-caused before now old new x (steps_told setup description sources) _
+      (tells-caused before now old new x (form_told description sources) _ (given-caused before now old new x (bundle_of setup description sources))) came
+
+  built-caused : (setup description : Json) → AfterBuilt before now old new setup description x → HasCause before now old new x
+  built-caused setup description came =
+      sources-caused before now old new x setup (items_at (codes "sourceDescriptions") description) (AfterSources setup description) (after-caused setup description) came
 
   described-caused : (setup description : Json) → AfterDescription before now old new setup description x → HasCause before now old new x
   described-caused setup description (told, described, came) =
-      let Then = FromSource before now old new setup description in
+      let Then = AfterBuilt before now old new setup description in
       tells-caused before now old new x told (Tells (unbuilt_told setup description) Then)
-      (tells-caused before now old new x (unbuilt_told setup description) Then (source-caused setup description)) came
+      (tells-caused before now old new x (unbuilt_told setup description) Then (built-caused setup description)) came
 
   description-caused : (setup : Json) → FromDescription before now old new setup x → HasCause before now old new x
   description-caused setup came =

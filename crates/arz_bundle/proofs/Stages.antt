@@ -1,9 +1,9 @@
 -- What comes of one file and of the phases after it.
-use Rattle.std.proofs.Common.{◌≡◌, inl, inr, ◌≤◌, ℕ, List, length, codes, Option, Some, None, Result, Ok, Err, IsErrAnd, refl, sym, ap, subst}
+use Rattle.std.proofs.Common.{◌≡◌, inl, inr, ◌≤◌, ℕ, List, [], length, codes, Option, Some, None, Result, Ok, Err, IsErrAnd, refl, sym, ap, ◌∙◌, subst}
 use Rattle.std.specs.Prelude.{option_map}
 use Rattle.std.specs.Str.{IsUtf8}
 use Rattle.serde_json.specs.Read.{read}
-use Rattle.arz_json.specs.Answer.{Fails}
+use Rattle.arz_json.specs.Answer.{Gives, Fails}
 use Rattle.arz_json.specs.Reading.{Reads}
 use Rattle.arz_json.specs.declared.Json.{Json}
 use Rattle.arz_json.specs.declared.Refusal.{Refusal}
@@ -11,14 +11,14 @@ use Rattle.arz_json.specs.declared.Token.{Token}
 use Rattle.arz_world.specs.Outside.{FilesView, ReadsAs}
 use Rattle.arz_doc.specs.Order.{seen_failure}
 use Rattle.arz_doc.specs.declared.order.Failure.{Failure}
-use Rattle.arz_rules.specs.Phases.{refusal, cause}
+use Rattle.arz_rules.specs.Phases.{Rule, refusal, cause, phase, told_or, first_failure}
 use Rattle.arz_rules.specs.declared.phases.RuleFault.{RuleFault}
 use Rattle.arz_rules.specs.declared.phases.RuleFault.TheVariants as rule
 use Rattle.arz_bundle.specs.declared.fault.LoadFault.{LoadFault}
 use Rattle.arz_bundle.specs.declared.fault.LoadFault.TheVariants.{File, Refused, Pattern, Memory}
-use Rattle.arz_bundle.specs.FileTree.{HasTree, Checks, FailsAt, load_fault, seen_refusal}
+use Rattle.arz_bundle.specs.FileTree.{HasTree, Checks, IsRelabelled, FailsAt, load_fault, seen_refusal}
 use Rattle.arz_bundle.specs.Loading.{file_limit, Tells, Reading}
-use Rattle.arz_bundle.specs.Phases.{earlier, source_told}
+use Rattle.arz_bundle.specs.Phases.{told, earlier, source_told}
 
 -- ---- one file, of what is read before it and after it
 
@@ -73,8 +73,56 @@ at-place before now path path' label label' x p l has =
     let L : List ℕ → Type 0 = λ m. HasTree before now path' m x in
     subst L l (subst P p has)
 
-pub labelled : (label label' : List ℕ) (description source : Json) (r : Result Unit RuleFault) → label ≡ label' → Checks (source_told label description source) r → Checks (source_told label' description source) r
-labelled label label' description source r same checks = subst (λ l. Checks (source_told l description source) r) same checks
+pub labelled : (label label' : List ℕ) (source : Json) (r : Result Unit RuleFault) → label ≡ label' → Checks (source_told label source) r → Checks (source_told label' source) r
+labelled label label' source r same checks = subst (λ l. Checks (source_told l source) r) same checks
+
+-- ---- what a call that looks at rules gives, as what a phase tells
+
+abbrev Told : Type 0
+Told = Result Unit Refusal
+
+abbrev Shown : Result Unit RuleFault → Told → Type 0
+Shown r meant = Gives (λ u. u) cause r meant
+
+fault-told : (label : List ℕ) (f : Option (ℕ × List Token)) (r : Result Unit RuleFault) → Shown r (told_or label f (Ok tt)) → Checks (option_map (refusal label) f) r
+fault-told label None (Ok u) gives = refl
+fault-told label None (Err (rule.Refused s)) gives = absurd (cc)
+fault-told label None (Err rule.Memory) gives = tt
+fault-told label (Some f) (Ok u) gives = absurd (cc)
+fault-told label (Some f) (Err (rule.Refused s)) gives = cc
+fault-told label (Some f) (Err rule.Memory) gives = tt
+
+pub phase-told : (label : List ℕ) (rules : List Rule) (r : Result Unit RuleFault) → Shown r (phase label rules (Ok tt)) → Checks (told label rules) r
+phase-told label rules r gives = fault-told label (first_failure rules) r gives
+
+-- the same under another label
+abbrev under_label : List ℕ → Refusal → Refusal
+under_label label r = record { rule = r.rule; label = label; pointer = r.pointer }
+
+same-refusal : (r s : Refusal) → (let meant : Told = Err r in meant ≡ Err s) → r ≡ s
+same-refusal r s e = cc
+
+fault-relabelled : (label : List ℕ) (f : Option (ℕ × List Token)) (was now : RuleFault) → Shown (Err was) (told_or [] f (Ok tt)) → IsRelabelled label was now → Checks (option_map (refusal label) f) (Err now)
+fault-relabelled label f was rule.Memory gives is = tt
+fault-relabelled label f rule.Memory (rule.Refused s) gives is = absurd is
+fault-relabelled label None (rule.Refused r) (rule.Refused s) gives is = absurd (cc)
+fault-relabelled label (Some f) (rule.Refused r) (rule.Refused s) gives is =
+    ap (λ q. Some (under_label label q)) (same-refusal (refusal [] f) r gives) ∙ ap (λ q. Some q) (sym is)
+
+pub phase-relabelled : (label : List ℕ) (rules : List Rule) (was now : RuleFault) → Shown (Err was) (phase [] rules (Ok tt)) → IsRelabelled label was now → Checks (told label rules) (Err now)
+phase-relabelled label rules was now gives is = fault-relabelled label (first_failure rules) was now gives is
+
+pub phase-passed : (label : List ℕ) (rules : List Rule) (u : Unit) → (let r : Result Unit RuleFault = Ok u in Shown r (phase [] rules (Ok tt))) → told label rules ≡ None
+phase-passed label rules u gives = by-failure (first_failure rules) gives
+  where
+    by-failure : (f : Option (ℕ × List Token)) → told_or [] f (let ok : Told = Ok tt in ok) ≡ Ok u → option_map (refusal label) f ≡ None
+    by-failure None gives = refl
+    by-failure (Some f) gives = absurd (cc)
+
+-- a source that isn't built is told
+pub refused-at : (label : List ℕ) (o : Option Refusal) (fault : RuleFault) → o ≡ Some (refusal label (0, [])) → FailsAt label 0 (load_fault fault) → Checks o (Err fault)
+refused-at label o (rule.Refused r) is fails = is ∙ ap (λ q. Some q) (sym fails)
+refused-at label o rule.Memory is fails = tt
 
 none-some : {X : Type 0} (o : Option X) (x : X) → o ≡ None → o ≡ Some x → ⊥
 none-some o x none some = absurd (cc)

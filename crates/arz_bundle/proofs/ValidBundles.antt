@@ -2,7 +2,7 @@
 use Rattle.std.proofs.Common.{◌≡◌, ℕ, true, List, [], ◌∷◌, map, get_or, Option, None, Some, All, codes, refl, arith, lt-ltb}
 use Rattle.std.specs.Prelude.{nat_lt, unwrap_or}
 use Rattle.std.specs.Option.{ForSome}
-use Rattle.std.proofs.lemmas.List.Elements.{All-from_recursion, All-map}
+use Rattle.std.proofs.lemmas.List.Elements.{All-map}
 use Rattle.std.proofs.lemmas.Option.{slice_get-get_or}
 use Rattle.arz_json.specs.Look.{list_in, object_in, member_in}
 use Rattle.arz_json.specs.Tree.{IsWithin, max_depth, form_step, depth_step}
@@ -17,7 +17,6 @@ use Rattle.arz_flow.specs.Documents.{members_at}
 use Rattle.arz_flow.specs.Valid.{IsValid}
 use Rattle.arz_rules.specs.Misses.{misses}
 use Rattle.arz_rules.specs.declared.kinds.Kind.TheVariants as Kind
-use Rattle.arz_bundle.specs.Loading.{source_name}
 use Rattle.arz_bundle.specs.Phases.{IsDescribed, replies_told}
 use Rattle.arz_bundle.specs.Printable.{IsItem, IsPrintable}
 use Rattle.arz_bundle.specs.Replies.{reply_of, HasStatus}
@@ -40,15 +39,18 @@ inputs-of : (setup : Json) (o : Option Json) → member_in (codes "inputs") setu
 inputs-of setup None e w = rw e no-members
 inputs-of setup (Some j) e w = rw e (members-of j (object_in j) refl (IsWithin-member_in 127 (codes "inputs") setup j e w))
 
-pub valid-bundle : (setup d s : Json) → IsDescribed setup d None → IsWithin 127 setup → IsWithin 127 d → IsWithin 127 s → IsValid (bundle_of setup d s (source_name d))
-valid-bundle setup d s none setup-within d-within s-within =
+abbrev pub Nests : Named → Type 0
+Nests s = IsWithin 127 s.root
+
+pub valid-bundle : (setup d : Json) (sources : List Named) → IsDescribed setup d None → IsWithin 127 setup → IsWithin 127 d → All Nests sources → IsValid (bundle_of setup d sources)
+valid-bundle setup d sources none setup-within d-within sources-within =
     let steps = run-steps setup d none in
     record {
       some = steps.0;
       few = steps.1;
       arazzo = d-within;
       inputs = inputs-of setup (member_in (codes "inputs") setup) refl setup-within;
-      sources = All-from_recursion (λ (n : Named). IsWithin 127 n.root) (record { name = source_name d; root = s } ∷ []) (s-within, tt);
+      sources = sources-within;
     }
 
 -- ---- the replies

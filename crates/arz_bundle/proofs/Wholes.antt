@@ -1,6 +1,8 @@
 -- What comes of a part of a call comes of the whole call.
-use Rattle.std.proofs.Common.{◌≡◌, ◌⊎◌, inl, inr, ◌≤◌, ℕ, List, [], ◌∷◌, Option, Some, None, Result, Ok, Err, refl, sym, ap, subst, arith}
+use Rattle.std.proofs.Common.{◌≡◌, ◌⊎◌, inl, inr, ◌≤◌, ℕ, List, [], ◌∷◌, codes, Option, Some, None, Result, Ok, Err, refl, sym, ap, subst, arith}
+use Rattle.arz_json.specs.Look.{items_at}
 use Rattle.arz_json.specs.declared.Json.{Json}
+use Rattle.arz_json.specs.declared.Named.{Named}
 use Rattle.arz_json.specs.declared.Refusal.{Refusal}
 use Rattle.arz_overlay.specs.Documents.{Document, document}
 use Rattle.arz_overlay.specs.Overlaid.{Patterned, overlaid}
@@ -13,11 +15,11 @@ use Rattle.arz_world.specs.declared.Reply.{Reply}
 use Rattle.arz_flow.specs.declared.bundle.Bundle.{Bundle}
 use Rattle.arz_bundle.specs.declared.fault.LoadFault.{LoadFault}
 use Rattle.arz_bundle.specs.declared.fault.LoadFault.TheVariants.{File, Refused, Pattern, Memory}
-use Rattle.arz_bundle.specs.FileTree.{Checks, Given, load_fault}
-use Rattle.arz_bundle.specs.Loading.{file_limit, Tells, Judged, Reading, Taken, Applied, OneOverlay, Overlaid, ReadingOverlaid, source_name, source_label, source_path, AfterSource, FromSource, AfterDescription, FromDescription, AfterSetup, Loads, AfterReplies, Gives_replies}
+use Rattle.arz_bundle.specs.FileTree.{Checks, Given, GivenSource, GivenSources, load_fault}
+use Rattle.arz_bundle.specs.Loading.{file_limit, Tells, Judged, Reading, Taken, Applied, OneOverlay, Overlaid, ReadingOverlaid, source_name, named, OneSource, FromSources, AfterSources, AfterBuilt, AfterDescription, FromDescription, AfterSetup, Loads, AfterReplies, Gives_replies}
 use Rattle.arz_bundle.specs.Overlays.{Listed, overlays_for, overlay_label}
-use Rattle.arz_bundle.specs.Phases.{setup_told, unbuilt_told}
-use Rattle.arz_bundle.specs.Setup.{description_path}
+use Rattle.arz_bundle.specs.Phases.{setup_told, unbuilt_told, source_label, source_told}
+use Rattle.arz_bundle.specs.Setup.{description_path, path_of_source}
 
 -- ---- parts of a call
 
@@ -118,6 +120,21 @@ module _ {A B : Type 0} (x : Result A LoadFault) (y : Result B LoadFault) (on : 
           reading-wider path label (λ tree. Overlaid before now old new os tree Next) (λ tree. Overlaid first last one two os tree Wider)
           (λ tree. overlaid-wider os tree Next Wider w) came
 
+      pub source-wider : (setup source : Json) (Next : Named → Result A LoadFault → Type 0) (Wider : Named → Result B LoadFault → Type 0)
+          → ((s : Named) → Next s x → Wider s y) → OneSource before now old new setup source Next x → OneSource first last one two setup source Wider y
+      source-wider setup source Next Wider w came =
+          let label = source_label (source_name source) in
+          document-wider (path_of_source setup source) label (overlays_for (Some (source_name source)) setup)
+          (λ root. Tells (source_told label root) (Next (named source root))) (λ root. Tells (source_told label root) (Wider (named source root)))
+          (λ root. tells-wider (source_told label root) (Next (named source root)) (Wider (named source root)) (w (named source root))) came
+
+      pub sources-wider : (setup : Json) (sources : List Json) (Next : List Named → Result A LoadFault → Type 0) (Wider : List Named → Result B LoadFault → Type 0)
+          → ((ss : List Named) → Next ss x → Wider ss y) → FromSources before now old new setup sources Next x → FromSources first last one two setup sources Wider y
+      sources-wider setup [] Next Wider w goes = w [] goes
+      sources-wider setup (source ∷ sources) Next Wider w came =
+          source-wider setup source (λ s. FromSources before now old new setup sources (λ ss. Next (s ∷ ss))) (λ s. FromSources first last one two setup sources (λ ss. Wider (s ∷ ss)))
+          (λ s. sources-wider setup sources (λ ss. Next (s ∷ ss)) (λ ss. Wider (s ∷ ss)) (λ ss. w (s ∷ ss))) came
+
 -- ---- what holds of a part holds of the whole
 
 pub as-it-is : {A : Type 0} (x : Result A LoadFault) → HandsOn x x
@@ -128,20 +145,19 @@ module _ (before now first last : FilesView) (part : FilesPart before now first 
   replies-whole path x came = reading-wider x x (as-it-is x) before now first last part path _ AfterReplies AfterReplies (λ tree goes. goes) came
 
   module _ (old new one two : PatternsView) (asked : PatternsPart old new one two) (x : Result Bundle LoadFault) where
-    pub source-whole : (setup description : Json) → FromSource before now old new setup description x → FromSource first last one two setup description x
-    source-whole setup description came =
-        document-wider x x (as-it-is x) before now first last part old new one two asked (source_path setup description) (source_label description)
-        (overlays_for (Some (source_name description)) setup) (AfterSource setup description) (AfterSource setup description) (λ made goes. goes) came
+    pub built-whole : (setup description : Json) → AfterBuilt before now old new setup description x → AfterBuilt first last one two setup description x
+    built-whole setup description came =
+        sources-wider x x (as-it-is x) before now first last part old new one two asked setup (items_at (codes "sourceDescriptions") description) (AfterSources setup description) (AfterSources setup description) (λ ss goes. goes) came
 
     pub described-whole : (setup description : Json) → AfterDescription before now old new setup description x → AfterDescription first last one two setup description x
     described-whole setup description (told, described, came) =
-        let Part = FromSource before now old new setup description in
-        let Whole = FromSource first last one two setup description in
+        let Part = AfterBuilt before now old new setup description in
+        let Whole = AfterBuilt first last one two setup description in
         let unbuilt = unbuilt_told setup description in (
           told,
           described,
           tells-wider x x (as-it-is x) told (Tells unbuilt Part) (Tells unbuilt Whole)
-              (tells-wider x x (as-it-is x) unbuilt Part Whole (source-whole setup description)) came,
+              (tells-wider x x (as-it-is x) unbuilt Part Whole (built-whole setup description)) came,
         )
 
     pub description-whole : (setup : Json) → FromDescription before now old new setup x → FromDescription first last one two setup x
@@ -197,3 +213,30 @@ document-at before now old new path path' label label' os os' x p l o reads =
     let L : List ℕ → Type 0 = λ m. ReadingOverlaid before now old new path' m os Given x in
     let O : List Listed → Type 0 = λ ls. ReadingOverlaid before now old new path' label' ls Given x in
     subst O o (subst L l (subst P p reads))
+
+-- ---- sources that were read, and what follows them
+
+pub same-source : (source made : Named) → GivenSource made (Ok source) → source ≡ made
+same-source source made given = cc
+
+pub no-source-given : (fault : LoadFault) (made : Named) → GivenSource made (Err fault) → ⊥
+no-source-given fault made given = cc
+
+same-sources : (sources made : List Named) → GivenSources made (Ok sources) → sources ≡ made
+same-sources sources made given = cc
+
+no-sources-given : (fault : LoadFault) (made : List Named) → GivenSources made (Err fault) → ⊥
+no-sources-given fault made given = cc
+
+module _ {A : Type 0} (before now : FilesView) (old new : PatternsView) (setup : Json) (described : List Json) (Next : List Named → Result A LoadFault → Type 0) where
+  -- what follows goes on with them
+  pub sources-given : (sources : List Named) (y : Result A LoadFault) → FromSources before now old new setup described GivenSources (Ok sources) → Next sources y → FromSources before now old new setup described Next y
+  sources-given sources y reads goes =
+      sources-wider (Ok sources) y (ok-no-fault sources y) before now before now (files-whole before now) old new old new (patterns-whole old new) setup described GivenSources Next
+      (λ made given. subst (λ t. Next t y) (same-sources sources made given) goes) reads
+
+  -- one of them isn't read, or fails a rule
+  pub sources-none : (fault : LoadFault) → FromSources before now old new setup described GivenSources (Err fault) → FromSources before now old new setup described Next (Err fault)
+  sources-none fault reads =
+      sources-wider (Err fault) (Err fault) (same-fault fault) before now before now (files-whole before now) old new old new (patterns-whole old new) setup described GivenSources Next
+      (λ made given. absurd (no-sources-given fault made given)) reads

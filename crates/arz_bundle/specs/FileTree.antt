@@ -1,8 +1,9 @@
 -- For private clauses: the tree of a file, or why there is none, and what a look at its rules answers.
-use Rattle.std.specs.Prelude.{◌≡◌, ℕ, List, [], Option, Some, None, option_map}
+use Rattle.std.specs.Prelude.{◌≡◌, ◌⊎◌, ℕ, List, [], Option, Some, None, option_map}
 use Rattle.std.specs.declared.result.Result.{Result}
 use Rattle.std.specs.declared.result.Result.TheVariants.{Ok, Err}
 use Rattle.arz_json.specs.declared.Json.{Json}
+use Rattle.arz_json.specs.declared.Named.{Named}
 use Rattle.arz_json.specs.declared.Refusal.{Refusal}
 use Rattle.arz_world.specs.Outside.{FilesView, ReadsAs, Rose}
 use denote.Ref.{Bor}
@@ -32,6 +33,12 @@ Checks told (Ok u) = told ≡ None
 Checks told (Err (rule.Refused r)) = told ≡ Some r
 Checks told (Err rule.Memory) = Unit {0}
 
+-- a refusal is told under this label, or memory ran out
+abbrev pub IsRelabelled : (label : List ℕ) → (was now : RuleFault) → Type 0
+IsRelabelled label (rule.Refused r) (rule.Refused s) = s ≡ record { rule = r.rule; label = label; pointer = r.pointer }
+IsRelabelled label rule.Memory (rule.Refused s) = ⊥
+IsRelabelled label was rule.Memory = Unit {0}
+
 abbrev pub load_fault : RuleFault → LoadFault
 load_fault (rule.Refused r) = Refused r
 load_fault rule.Memory = Memory
@@ -55,6 +62,16 @@ seen_refusal label failure = option_map (refusal label) (option_map seen_failure
 abbrev pub labelled : Bor (List ℕ) × Failure → Refusal
 labelled p = refusal p.0.now (seen_failure p.1)
 
--- this tree is given
+-- this tree is given; and this source, and these
 abbrev pub Given : Json → Result Json LoadFault → Type 0
 Given tree x = x ≡ Ok tree
+
+abbrev pub GivenSource : Named → Result Named LoadFault → Type 0
+GivenSource source x = x ≡ Ok source
+
+abbrev pub GivenSources : List Named → Result (List Named) LoadFault → Type 0
+GivenSources sources x = x ≡ Ok sources
+
+-- this comes, or memory ran out
+abbrev pub OrMemory : {A : Type 0} → (Result A LoadFault → Type 0) → Result A LoadFault → Type 0
+OrMemory Comes x = Comes x ⊎ (x ≡ Err Memory)

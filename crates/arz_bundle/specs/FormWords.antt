@@ -1,5 +1,5 @@
 -- Words for the tables of objects that the form of source documents is made of.
-use Rattle.std.specs.Prelude.{ℕ, ◌==◌, ◌&&◌, ◌||◌, List, [], ◌∷◌, Bool, false, Option, Some, None, codes, nat_eq, not, find}
+use Rattle.std.specs.Prelude.{ℕ, ◌==◌, ◌&&◌, ◌||◌, List, [], ◌∷◌, Bool, true, false, Option, Some, None, codes, nat_eq, not, find}
 use Rattle.std.specs.Option.{option_map_or, is_some}
 use Rattle.std.specs.Char.{is_ascii_alphanumeric}
 use Rattle.std.specs.List.{list_all, starts_with}
@@ -14,6 +14,10 @@ use Rattle.arz_bundle.specs.FormTexts.{short_text_in, has_short_texts}
 -- there is one, and it passes the test
 abbrev pub passes : {A : Type 0} → (A → Bool) → Option A → Bool
 passes test o = option_map_or test o false
+
+-- there is none, or it passes the test
+abbrev pub is_none_or : {A : Type 0} → (A → Bool) → Option A → Bool
+is_none_or test o = option_map_or test o true
 
 -- the item of a list that has one
 abbrev pub sole : {A : Type 0} → List A → Option A

@@ -1,5 +1,5 @@
 -- The form that is built of a source document (OpenAPI 3.1.1, 4.8), for the steps of a description.
-use Rattle.std.specs.Prelude.{◌==◌, ◌&&◌, List, [], ◌∷◌, Bool, codes, nat_eq, count_by}
+use Rattle.std.specs.Prelude.{◌==◌, ◌&&◌, List, [], ◌∷◌, Bool, codes, nat_eq}
 use Rattle.std.specs.List.{list_all, list_any, starts_with}
 use Rattle.std.specs.Str.{bytes_eq}
 use Rattle.arz_json.specs.declared.tree.Json.{Json}
@@ -8,7 +8,7 @@ use Rattle.arz_flow.specs.Documents.{text_at, items_at, Operation, operations_in
 use Rattle.arz_flow.specs.Parameters.{Parameter, parameters_of}
 use Rattle.arz_flow.specs.Paths.{Part, Name, Byte, parts}
 use Rattle.arz_bundle.specs.FormTexts.{is_short}
-use Rattle.arz_bundle.specs.FormWords.{passes, Row, needed, is_object_of, is_object_with, is_list_of_one, is_info, is_path_byte, is_server_url, is_openapi_version, is_operation_id}
+use Rattle.arz_bundle.specs.FormWords.{is_none_or, Row, needed, is_object_of, is_object_with, is_list_of_one, is_info, is_path_byte, is_server_url, is_openapi_version, is_operation_id}
 
 -- ---- source document
 
@@ -52,19 +52,17 @@ abbrev pub is_callable : (description step : Json) → Operation → Bool
 is_callable description step o = bytes_eq o.method (codes "get") && list_all (is_given (parameters_of description step)) (parts o.path)
 
 module _ (description root : Json) where
-  -- exactly one operation of the document has the step's operationId, and the step may call it
-  abbrev pub has_operation : (step : Json) → Bool
-  has_operation step =
-      count_by (λ o. bytes_eq o.id (text_at (codes "operationId") step)) (operations_in root) == 1
-      && passes (is_callable description step) (operation_named (text_at (codes "operationId") step) (operations_in root))
+  -- the step names no operation of the document, or one that it may call
+  abbrev pub serves_step : (step : Json) → Bool
+  serves_step step = is_none_or (is_callable description step) (operation_named (text_at (codes "operationId") step) (operations_in root))
 
-  -- the document has the operations of the steps of a workflow, of the description
-  abbrev pub has_operations : (workflow : Json) → Bool
-  has_operations workflow = list_all has_operation (items_at (codes "steps") workflow)
+  -- so does each step of a workflow, of the description
+  abbrev pub serves_workflow : (workflow : Json) → Bool
+  serves_workflow workflow = list_all serves_step (items_at (codes "steps") workflow)
 
   abbrev pub serves : Bool
-  serves = list_all has_operations (items_at (codes "workflows") description)
+  serves = list_all serves_workflow (items_at (codes "workflows") description)
 
--- a source document that has the operations of a description's steps
+-- a source document whose operations the steps of a description may call, where they name them
 abbrev pub is_source : (description root : Json) → Bool
 is_source description root = is_source_document root && serves description root

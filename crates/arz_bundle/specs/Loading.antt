@@ -1,11 +1,12 @@
 -- How the files of a run are read, and what comes of them: phase by phase, and in each the first rule that fails.
-use Rattle.std.specs.Prelude.{◌≡◌, ◌⊎◌, ◌<◌, ◌≤◌, ◌++◌, ℕ, List, [], ◌∷◌, length, codes, Option, Some, None}
+use Rattle.std.specs.Prelude.{◌≡◌, ◌⊎◌, ◌<◌, ◌≤◌, ℕ, List, [], ◌∷◌, length, codes, Option, Some, None}
 use Rattle.std.specs.declared.result.Result.{Result}
 use Rattle.std.specs.declared.result.Result.TheVariants.{Ok, Err}
-use Rattle.arz_json.specs.Look.{items_at}
+use Rattle.arz_json.specs.Look.{text_at, items_at}
 use Rattle.arz_json.specs.Reading.{Reads}
 use Rattle.arz_json.specs.Tree.{IsWithin}
 use Rattle.arz_json.specs.declared.Json.{Json}
+use Rattle.arz_json.specs.declared.Named.{Named}
 use Rattle.arz_json.specs.declared.Refusal.{Refusal}
 use Rattle.arz_world.specs.Outside.{FilesView, ReadsAs, Rose}
 use Rattle.arz_world.specs.declared.Reply.{Reply}
@@ -18,9 +19,9 @@ use Rattle.arz_rx.specs.Patterns.{PatternsView, Rose as PatternsRose}
 use Rattle.arz_bundle.specs.declared.fault.LoadFault.{LoadFault}
 use Rattle.arz_bundle.specs.declared.fault.LoadFault.TheVariants.{File, Refused, Pattern, Memory}
 use Rattle.arz_bundle.specs.Overlays.{Listed, overlays_for, overlay_label}
-use Rattle.arz_bundle.specs.Phases.{setup_told, IsDescribed, unbuilt_told, source_told, replies_told}
+use Rattle.arz_bundle.specs.Phases.{setup_told, IsDescribed, unbuilt_told, source_label, source_told, steps_told, form_told, replies_told}
 use Rattle.arz_bundle.specs.Replies.{replies_of}
-use Rattle.arz_bundle.specs.Setup.{description_path, path_of_source, first_text, bundle_of}
+use Rattle.arz_bundle.specs.Setup.{description_path, path_of_source, bundle_of}
 
 -- ---- one file
 
@@ -89,26 +90,32 @@ module _ {A : Type 0} where
     abbrev pub ReadingOverlaid : (path label : List ℕ) → List Listed → (Json → Result A LoadFault → Type 0) → Result A LoadFault → Type 0
     ReadingOverlaid path label os Next = Reading before now path label (λ tree. Overlaid os tree Next)
 
+-- ---- the sources, one by one (Arazzo 1.0.1, 4.6.3)
+
+abbrev pub source_name : (source : Json) → List ℕ
+source_name source = text_at (codes "name") source
+
+abbrev pub named : (source root : Json) → Named
+named source root = record { name = source_name source; root = root }
+
+module _ {A : Type 0} (before now : FilesView) (old new : PatternsView) (setup : Json) where
+  -- one source: its file and overlays, and its rules; Next says what comes of its document
+  abbrev pub OneSource : (source : Json) → (Named → Result A LoadFault → Type 0) → Result A LoadFault → Type 0
+  OneSource source Next =
+      ReadingOverlaid before now old new (path_of_source setup source) (source_label (source_name source)) (overlays_for (Some (source_name source)) setup)
+      (λ root. Tells (source_told (source_label (source_name source)) root) (Next (named source root)))
+
+  -- one after another; Next says what comes of them all
+  abbrev pub FromSources : (sources : List Json) → (List Named → Result A LoadFault → Type 0) → Result A LoadFault → Type 0
+  FromSources [] Next x = Next [] x
+  FromSources (source ∷ sources) Next x = OneSource source (λ s. FromSources sources (λ ss. Next (s ∷ ss))) x
+
 -- ---- the files, one by one, and their phases
 
--- the name of the one source
-abbrev pub source_name : Json → List ℕ
-source_name description = first_text (codes "name") (items_at (codes "sourceDescriptions") description)
-
-abbrev pub source_label : Json → List ℕ
-source_label description = codes "source " ++ source_name description
-
-abbrev pub first_source_path : (setup : Json) → List Json → List ℕ
-first_source_path setup [] = []
-first_source_path setup (source ∷ sources) = path_of_source setup source
-
-abbrev pub source_path : (setup description : Json) → List ℕ
-source_path setup description = first_source_path setup (items_at (codes "sourceDescriptions") description)
-
--- the source passes its phase, and the bundle is made
-abbrev pub AfterSource : (setup description source : Json) → Result Bundle LoadFault → Type 0
-AfterSource setup description source =
-    Tells (source_told (source_label description) description source) (λ x. x ≡ Ok (bundle_of setup description source (source_name description)))
+-- all sources were read: the steps against them, then what isn't built of them, and the bundle is made
+abbrev pub AfterSources : (setup description : Json) → List Named → Result Bundle LoadFault → Type 0
+AfterSources setup description sources =
+    Tells (steps_told setup description sources) (Tells (form_told description sources) (λ x. x ≡ Ok (bundle_of setup description sources)))
 
 -- a file of replies passes its phase
 abbrev pub AfterReplies : Json → Result (List Reply) LoadFault → Type 0
@@ -119,14 +126,13 @@ abbrev pub Gives_replies : (before now : FilesView) → List ℕ → Result (Lis
 Gives_replies before now path = Reading before now path (codes "replies") AfterReplies
 
 module _ (before now : FilesView) (old new : PatternsView) where
-  abbrev pub FromSource : (setup description : Json) → Result Bundle LoadFault → Type 0
-  FromSource setup description =
-      ReadingOverlaid before now old new (source_path setup description) (source_label description) (overlays_for (Some (source_name description)) setup) (AfterSource setup description)
+  abbrev pub AfterBuilt : (setup description : Json) → Result Bundle LoadFault → Type 0
+  AfterBuilt setup description = FromSources before now old new setup (items_at (codes "sourceDescriptions") description) (AfterSources setup description)
 
   -- the description's rules with those of what the setup names in it, and then what isn't built yet
   abbrev pub AfterDescription : (setup description : Json) → Result Bundle LoadFault → Type 0
   AfterDescription setup description x =
-      (told : Option Refusal) × IsDescribed setup description told × Tells told (Tells (unbuilt_told setup description) (FromSource setup description)) x
+      (told : Option Refusal) × IsDescribed setup description told × Tells told (Tells (unbuilt_told setup description) (AfterBuilt setup description)) x
 
   abbrev pub FromDescription : (setup : Json) → Result Bundle LoadFault → Type 0
   FromDescription setup = ReadingOverlaid before now old new (description_path setup) (codes "arazzo") (overlays_for None setup) (AfterDescription setup)
@@ -134,6 +140,6 @@ module _ (before now : FilesView) (old new : PatternsView) where
   abbrev pub AfterSetup : (setup : Json) → Result Bundle LoadFault → Type 0
   AfterSetup setup = Tells (setup_told setup) (FromDescription setup)
 
-  -- the setup at this path, the description and the source, in this order
+  -- the setup at this path, the description and its sources, in this order
   abbrev pub Loads : List ℕ → Result Bundle LoadFault → Type 0
   Loads path = Reading before now path (codes "setup") AfterSetup

@@ -1,11 +1,16 @@
 -- The phases in which the files are judged: of each the refusal that it tells, if a rule of it fails.
-use Rattle.std.specs.Prelude.{◌≡◌, ℕ, Bool, List, [], ◌∷◌, codes, nat_le, if◌then◌else◌, Option, Some, None, option_map}
+use Rattle.std.specs.Prelude.{◌≡◌, ℕ, Bool, List, [], ◌∷◌, ◌++◌, codes, nat_le, not, find, if◌then◌else◌, Option, Some, None, option_map}
+use Rattle.arz_json.specs.Look.{members_at}
 use Rattle.arz_json.specs.declared.Json.{Json}
+use Rattle.arz_json.specs.declared.Named.{Named}
 use Rattle.arz_json.specs.declared.Refusal.{Refusal}
 use Rattle.arz_rules.specs.Phases.{Rule, refusal, first_failure}
 use Rattle.arz_doc.specs.Cycles.{TellsCycles}
 use Rattle.arz_doc.specs.Order.{rules}
-use Rattle.arz_bundle.specs.FileRules.{setup_rules, source_rules, replies_rules}
+use Rattle.arz_openapi.specs.Rules.{rules as source_rules}
+use Rattle.arz_sources.specs.Rules.{rules as step_rules}
+use Rattle.arz_bundle.specs.FileRules.{setup_rules, replies_rules}
+use Rattle.arz_bundle.specs.Forms.{is_source}
 use Rattle.arz_bundle.specs.Naming.{naming_rules}
 use Rattle.arz_bundle.specs.Unbuilt.{unbuilt_of_setup, unbuilt_of_description}
 
@@ -41,8 +46,21 @@ abbrev pub unbuilt_told : (setup description : Json) → Option Refusal
 unbuilt_told setup description =
     earlier (told (codes "setup") ((0, unbuilt_of_setup setup) ∷ [])) (told (codes "arazzo") ((0, unbuilt_of_description description) ∷ []))
 
-abbrev pub source_told : (label : List ℕ) → (description source : Json) → Option Refusal
-source_told label description source = told label (source_rules description source)
+-- the label of a source in refusals
+abbrev pub source_label : (name : List ℕ) → List ℕ
+source_label name = codes "source " ++ name
+
+-- a source by itself
+abbrev pub source_told : (label : List ℕ) → (source : Json) → Option Refusal
+source_told label source = told label (source_rules source)
+
+-- the steps of the description, against the sources that they call
+unfoldable pub steps_told : (setup description : Json) → List Named → Option Refusal
+steps_told setup description sources = told (codes "arazzo") (step_rules description sources (members_at (codes "servers") setup))
+
+-- the first source that isn't of the form that is built
+abbrev pub form_told : (description : Json) → List Named → Option Refusal
+form_told description sources = option_map (λ s. refusal (source_label s.name) (0, [])) (find (λ s. not (is_source description s.root)) sources)
 
 abbrev pub replies_told : (replies : Json) → Option Refusal
 replies_told replies = told (codes "replies") (replies_rules replies)

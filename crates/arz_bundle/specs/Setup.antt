@@ -3,6 +3,7 @@ use Rattle.std.specs.Prelude.{ℕ, ℤ, pos, negsuc, nat_le, List, [], ◌∷◌
 use Rattle.std.specs.Str.{bytes_eq}
 use Rattle.arz_json.specs.Look.{text_in, int_in, member_in, text_at, items_at, members_at}
 use Rattle.arz_json.specs.declared.Json.{Json}
+use Rattle.arz_json.specs.declared.Named.{Named}
 use Rattle.arz_flow.specs.declared.bundle.Bundle.{Bundle}
 
 -- ---- paths of files
@@ -53,11 +54,11 @@ skips_delay setup = bytes_eq (text_at (codes "delay") setup) (codes "skip")
 
 -- ---- the bundle
 
--- what is executed, of one source
-abbrev pub bundle_of : (setup description source : Json) → (name : List ℕ) → Bundle
-bundle_of setup description source name = record {
+-- what is executed, of these sources
+abbrev pub bundle_of : (setup description : Json) → List Named → Bundle
+bundle_of setup description sources = record {
   arazzo = description;
-  sources = record { name = name; root = source } ∷ [];
+  sources = sources;
   servers = [];
   workflow = workflow_run setup description;
   inputs = members_at (codes "inputs") setup;

@@ -36,8 +36,8 @@ second_of (j ∷ k ∷ more) = (Index 1 ∷ []) ∷ []
 abbrev pub second : Check
 second j = second_of (items j)
 
-abbrev pub second_items : Check
-second_items root = at (member (codes "sourceDescriptions") ∷ []) second root ++ at (member (codes "workflows") ∷ []) second root
+abbrev pub second_workflow : Check
+second_workflow root = at (member (codes "workflows") ∷ []) second root
 
 -- members of workflows and of steps; what stands inside of one, as the criteria of an action, is told there
 abbrev pub unbuilt_members : List (List Step)
@@ -72,4 +72,4 @@ unbuilt_calls root =
     ++ at (steps ++ member (codes "parameters") ∷ each_item ∷ []) (elsewhere root) root
 
 abbrev pub unbuilt_of_description : Check
-unbuilt_of_description root = second_items root ++ at_each unbuilt_members everywhere root ++ unbuilt_calls root
+unbuilt_of_description root = second_workflow root ++ at_each unbuilt_members everywhere root ++ unbuilt_calls root

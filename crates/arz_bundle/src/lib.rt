@@ -13,6 +13,7 @@ mod overlays;
 mod phases;
 mod rules;
 mod setup;
+mod sources;
 mod unbuilt;
 
 pub use fault::LoadFault;

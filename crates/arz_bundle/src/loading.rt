@@ -1,30 +1,30 @@
 // The bundle that the files of a run give.
-ghost use Rattle.std.specs.Prelude.{◌≡◌, ◌≤◌, ℕ, List, IfOk, None, codes, string_bytes};
+ghost use Rattle.std.specs.Prelude.{◌≡◌, ◌≤◌, ℕ, List, IfOk, None, codes};
 ghost use Rattle.arz_json.specs.Tree.{IsWithin};
 ghost use Rattle.arz_json.specs.Look.{members_at as members_under};
 ghost use Rattle.arz_flow.specs.Valid.{IsValid};
 ghost use Rattle.arz_path.specs.Results.{Asked};
-ghost use Rattle.arz_bundle.specs.Loading.{source_name as name_of_source, source_label as label_of_source, source_path as path_of_first, FromSource, FromDescription, Loads};
+ghost use Rattle.arz_bundle.specs.FileTree.{OrMemory};
+ghost use Rattle.arz_bundle.specs.Loading.{AfterBuilt, FromDescription, Loads};
 ghost use Rattle.arz_bundle.specs.Phases.{IsDescribed};
 ghost use Rattle.arz_bundle.specs.Setup.{bundle_of};
 
 use crate::fault::LoadFault;
 use crate::files::read_tree;
 use crate::overlays::read_overlaid;
-use crate::phases::{check_built, check_description};
-use crate::rules::{check_setup, check_source};
-use crate::setup::{
-    first_text, journal_limit, max_attempts, skips_delay, source_path, workflow_run,
-};
+use crate::phases::{check_built, check_calls, check_description, check_forms};
+use crate::rules::check_setup;
+use crate::setup::{journal_limit, max_attempts, skips_delay, workflow_run};
+use crate::sources::read_sources;
 use arz_flow::Bundle;
 use arz_json::{Json, Many, Members, Named, Text, items_at, text_at};
 use arz_rx::Patterns;
 use arz_world::Files;
 use std::alloc::{AllocError, Global};
 
-/// Reads the setup at a path, and the description and the source that it leads to, each with its overlays. The
-/// files are read one by one, each is judged by its rules, and the first that can't be read or fails a rule
-/// decides. A refusal has the document's label: `setup`, `arazzo`, `source NAME` or `overlay K`, with the
+/// Reads the setup at a path, and the description and the sources that it leads to, each with its overlays. The
+/// files are read one by one, each is judged by its rules, and at last the steps against the sources that they
+/// call; the first that can't be read or fails a rule decides. A refusal has the document's label: `setup`, `arazzo`, `source NAME` or `overlay K`, with the
 /// overlay's number in the setup's whole list. `rx` searches for the patterns of overlays' targets; `Pattern`
 /// comes only where the count of patterns too big has risen.
 pub fn load<F: Files, P: Patterns>(
@@ -61,10 +61,10 @@ fn from_description<F: Files, P: Patterns>(
     let description = read_overlaid(alloc, &setup, None, path, "arazzo", files, rx)?;
     check_description(alloc, &setup, &description)?;
     check_built(alloc, &setup, &description)?;
-    from_source(alloc, setup, description, files, rx)
+    from_sources(alloc, setup, description, files, rx)
 }
 
-fn from_source<F: Files, P: Patterns>(
+fn from_sources<F: Files, P: Patterns>(
     alloc: Global,
     setup: Json,
     description: Json,
@@ -74,41 +74,17 @@ fn from_source<F: Files, P: Patterns>(
     requires described { IsDescribed setup description None }
     requires setup_nests { IsWithin 127 setup }
     requires description_nests { IsWithin 127 description }
-    ensures loads { FromSource (F.files files.old) (F.files files.new) (P.patterns rx.old) (P.patterns rx.new) setup description result }
+    ensures loads { OrMemory (AfterBuilt (F.files files.old) (F.files files.new) (P.patterns rx.old) (P.patterns rx.new) setup description) result }
     ensures valid { IfOk result IsValid }
     ensures told { (F.files files.new).told ≡ (F.files files.old).told }
     ensures counts { (p : List ℕ) → (F.files files.old).faults p ≤ (F.files files.new).faults p }
     ensures asked { Asked (P.patterns rx.old) (P.patterns rx.new) }
 {
-    let label = source_label(alloc, &description)?;
-    let name = source_name(&description);
-    let path = first_source_path(&setup, &description);
-    let source = read_overlaid(alloc, &setup, Some(name), path, label.as_str(), files, rx)?;
-    check_source(alloc, label.as_str(), &description, &source)?;
-    Ok(make_bundle(alloc, setup, description, source)?)
-}
-
-fn source_label(alloc: Global, description: &Json) -> Result<String, AllocError>
-    ensures { IfOk result (λ label. string_bytes label ≡ label_of_source description.now) }
-{
-    let mut label = String::from_str(alloc, "source ")?;
-    label.push_str(source_name(description))?;
-    Ok(label)
-}
-
-fn source_name(description: &Json) -> &str
-    ensures { result.now ≡ name_of_source description.now }
-{
-    first_text(items_at(description, "sourceDescriptions"), "name")
-}
-
-fn first_source_path<'a>(setup: &'a Json, description: &'a Json) -> &'a str
-    ensures { result.now ≡ path_of_first setup.now description.now }
-{
-    match items_at(description, "sourceDescriptions") {
-        [] => "",
-        [source, ..] => source_path(setup, source),
-    }
+    let described = items_at(&description, "sourceDescriptions");
+    let sources = read_sources(alloc, &setup, described, files, rx)?;
+    check_calls(alloc, &setup, &description, sources.as_slice())?;
+    check_forms(alloc, &description, sources.as_slice())?;
+    Ok(make_bundle(alloc, setup, description, sources)?)
 }
 
 // What is executed.
@@ -116,20 +92,17 @@ fn make_bundle(
     alloc: Global,
     setup: Json,
     description: Json,
-    source: Json,
+    sources: Many<Named>,
 ) -> Result<Bundle, AllocError>
-    ensures { IfOk result (λ bundle. bundle ≡ bundle_of setup description source (name_of_source description)) }
+    ensures { IfOk result (λ bundle. bundle ≡ bundle_of setup description sources) }
 {
-    let name = Text::from_str(alloc, source_name(&description))?;
     let workflow = Text::from_str(alloc, workflow_run(&setup, &description))?;
     let max_attempts = max_attempts(&setup);
     let skip_delay = skips_delay(&setup);
     let journal_limit = journal_limit(&setup);
-    let mut sources = Vec::new(alloc);
-    sources.push(Named { name, root: source })?;
     Ok(Bundle {
         arazzo: description,
-        sources: Many::from_std(sources),
+        sources,
         servers: Many::new(alloc),
         workflow,
         inputs: into_inputs(alloc, setup),

@@ -1,13 +1,12 @@
-// The rules of the setup, the replies and a source: the first that fails.
-ghost use Rattle.std.specs.Prelude.{◌≡◌, true, IfOk};
-ghost use Rattle.arz_json.specs.Tree.{IsWithin, has_form};
+// The rules of the setup, the replies and a source by themselves: the first that fails.
+ghost use Rattle.std.specs.Prelude.{◌≡◌, IfOk};
+ghost use Rattle.arz_json.specs.Tree.{IsWithin};
 ghost use Rattle.arz_rules.specs.Place.{least, tokens_in};
-ghost use Rattle.arz_bundle.specs.FileRules.{setup_limits, is_at_most as at_most};
-ghost use Rattle.arz_bundle.specs.FileTree.{Checks};
+ghost use Rattle.arz_bundle.specs.FileRules.{bad_servers, setup_limits, is_at_most as at_most, is_server_url as server_url};
+ghost use Rattle.arz_bundle.specs.FileTree.{Checks, IsRelabelled};
 ghost use Rattle.arz_bundle.specs.Phases.{setup_told, replies_told, source_told};
 
-use crate::forms::is_source;
-use arz_json::{Json, Place};
+use arz_json::{Json, Place, Refusal, Text};
 use arz_rules::{
     Check, Kind, RuleFault, Way, first_at, first_miss, lesser, refuse_if, root_unless,
 };
@@ -25,7 +24,16 @@ pub(crate) fn check_setup(alloc: Global, setup: &Json) -> Result<(), RuleFault>
         "setup",
         first_at(alloc, &[Way::Member("inputs")], &Fractions {}, setup)?,
     )?;
+    refuse_if(alloc, 20, "setup", first_bad_server(alloc, setup)?)?;
     refuse_if(alloc, 24, "setup", first_past_limit(alloc, setup)?)
+}
+
+fn first_bad_server(alloc: Global, setup: &Json) -> Result<Option<Place>, AllocError>
+    requires { IsWithin 127 setup.now }
+    ensures { IfOk result (λ p. tokens_in p ≡ least (bad_servers setup.now)) }
+{
+    let servers = [Way::Member("servers"), Way::EachMember];
+    first_at(alloc, &servers, &ServerUrl {}, setup)
 }
 
 fn first_past_limit(alloc: Global, setup: &Json) -> Result<Option<Place>, AllocError>
@@ -67,18 +75,32 @@ pub(crate) fn check_replies(alloc: Global, replies: &Json) -> Result<(), RuleFau
     )
 }
 
-/// Looks at the form of a source, for the steps of a description.
-pub(crate) fn check_source(
-    alloc: Global,
-    label: &str,
-    description: &Json,
-    source: &Json,
-) -> Result<(), RuleFault>
-    requires { has_form description.now ≡ true }
-    ensures { Checks (source_told label.now description.now source.now) result }
+/// Looks at the rules of a source by itself (OpenAPI 3.1.1, 4.8), which refusals name by its label.
+pub(crate) fn check_source(alloc: Global, label: &str, source: &Json) -> Result<(), RuleFault>
+    requires { IsWithin 127 source.now }
+    ensures { Checks (source_told label.now source.now) result }
 {
-    let is_built = is_source(alloc, description, source)?;
-    refuse_if(alloc, 0, label, root_unless(alloc, is_built))
+    match arz_openapi::check(alloc, source) {
+        Ok(()) => Ok(()),
+        Err(fault) => Err(relabel(alloc, label, fault)),
+    }
+}
+
+// The same fault under another label, or memory ran out.
+fn relabel(alloc: Global, label: &str, fault: RuleFault) -> RuleFault
+    ensures { IsRelabelled label.now fault result }
+{
+    match fault {
+        RuleFault::Refused(refusal) => match Text::from_str(alloc, label) {
+            Ok(label) => RuleFault::Refused(Refusal {
+                rule: refusal.rule,
+                label,
+                pointer: refusal.pointer,
+            }),
+            Err(_) => RuleFault::Memory,
+        },
+        RuleFault::Memory => RuleFault::Memory,
+    }
 }
 
 // ---- checks
@@ -111,6 +133,30 @@ impl Check for Past {
     fn first(&self, alloc: Global, tree: &Json) -> Result<Option<Place>, AllocError> {
         Ok(root_unless(alloc, is_at_most(self.limit, tree.as_int())))
     }
+}
+
+/// The check that a text is a URL that a server may have.
+#[derive(Clone, Copy, Debug)]
+struct ServerUrl {}
+
+impl Check for ServerUrl {
+    ghost use Rattle.arz_rules.specs.Sets.{bad_text};
+    ghost use Rattle.arz_bundle.specs.FileRules.{is_server_url};
+
+    ghost places = { λ _. bad_text is_server_url };
+
+    fn first(&self, alloc: Global, tree: &Json) -> Result<Option<Place>, AllocError> {
+        Ok(match tree.as_text() {
+            Some(url) => root_unless(alloc, is_server(url)),
+            None => None,
+        })
+    }
+}
+
+fn is_server(url: &str) -> bool
+    ensures { result ≡ server_url url.now }
+{
+    arz_target::server_url(url).is_some()
 }
 
 fn is_at_most(limit: u32, number: Option<i128>) -> bool

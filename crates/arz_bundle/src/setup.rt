@@ -39,8 +39,8 @@ fn named_workflow(setup: &Json) -> Option<&str>
     setup.get("workflow")?.as_text()
 }
 
-/// The text under a name in the first of these, or the empty text.
-pub(crate) fn first_text<'a>(items: &'a [Json], name: &str) -> &'a str
+// The text under a name in the first of these, or the empty text.
+fn first_text<'a>(items: &'a [Json], name: &str) -> &'a str
     ensures { result.now ≡ text_in_first name.now items.now }
 {
     match items {

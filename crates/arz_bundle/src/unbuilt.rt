@@ -4,7 +4,7 @@ ghost use Rattle.std.specs.Option.{option_copied};
 ghost use Rattle.arz_json.specs.Tree.{IsWithin, has_form};
 ghost use Rattle.arz_rules.specs.Place.{least, tokens_in};
 ghost use Rattle.arz_rules.specs.Sites.{seen_site, text_named};
-ghost use Rattle.arz_bundle.specs.Unbuilt.{unbuilt_of_setup, unbuilt_members as members_unbuilt, second_items, second_of, unbuilt_calls, unbuilt_of_description, is_path as path_place};
+ghost use Rattle.arz_bundle.specs.Unbuilt.{unbuilt_of_setup, unbuilt_members as members_unbuilt, second_of, unbuilt_calls, unbuilt_of_description, is_path as path_place};
 
 use crate::components::component_of;
 use arz_json::{Json, Place};
@@ -33,21 +33,10 @@ pub(crate) fn first_unbuilt_of_description(
     requires { IsWithin 127 root.now }
     ensures { IfOk result (λ p. tokens_in p ≡ least (unbuilt_of_description root.now)) }
 {
-    let second = first_second(alloc, root)?;
+    let second = first_at(alloc, &[Member("workflows")], &Second {}, root)?;
     let members = first_at_each(alloc, unbuilt_members(), &Everywhere {}, root)?;
     let calls = first_unbuilt_call(alloc, root)?;
     Ok(lesser(lesser(second, members), calls))
-}
-
-fn first_second(alloc: Global, root: &Json) -> Result<Option<Place>, AllocError>
-    requires { IsWithin 127 root.now }
-    ensures { IfOk result (λ p. tokens_in p ≡ least (second_items root.now)) }
-{
-    let sources = first_at(alloc, &[Member("sourceDescriptions")], &Second {}, root)?;
-    Ok(lesser(
-        sources,
-        first_at(alloc, &[Member("workflows")], &Second {}, root)?,
-    ))
 }
 
 const OPERATION_IDS: [Way<'static>; 5] = [

@@ -1,11 +1,10 @@
 // The operations that steps call (Arazzo 1.0.1, 4.6.5: `operationId`), found by a map.
-ghost use Rattle.std.specs.Prelude.{◌≡◌, ℕ, List, [], None, codes, true, unwrap_or, if◌then◌else◌, IfOk, OnOk};
-ghost use Rattle.std.specs.Str.{bytes_eq};
-ghost use Rattle.arz_json.specs.Look.{object_in};
+ghost use Rattle.std.specs.Prelude.{◌≡◌, ℕ, List, [], ◌∷◌, true, IfOk, OnOk};
+ghost use Rattle.std.specs.Option.{option_or};
 ghost use Rattle.arz_json.specs.Tree.{has_form};
-ghost use Rattle.arz_flow.specs.Documents.{operations_under, operations_in, operation_at, url_of, text_at as text_under};
+ghost use Rattle.arz_flow.specs.Documents.{operations_under, operations_in, operation_at, operation_named, url_of};
 ghost use Rattle.arz_bundle.specs.Forms.{is_callable as callable};
-ghost use Rattle.arz_bundle.specs.Standing.{noted, noted_all, told};
+ghost use Rattle.arz_bundle.specs.Standing.{told};
 
 use crate::forms::paths::is_filled_by;
 use arz_flow::{items_at, members_at, text_at};
@@ -16,8 +15,8 @@ use std::collections::BTreeMap;
 // A path item, and the operation under it.
 type Place<'a> = (&'a Member, &'a Member);
 
-// By operationId the operation that alone has it, or nothing where several have it.
-type Places<'a> = BTreeMap<&'a str, Option<Place<'a>>>;
+// By operationId the first operation that has it.
+type Places<'a> = BTreeMap<&'a str, Place<'a>>;
 
 /// The operations of a source document by their operationIds, for the steps of a description.
 #[derive(Drop)]
@@ -26,11 +25,11 @@ pub(crate) struct Operations<'a> {
     root: &'a Json,
     places: Places<'a>,
     ghost formed: { has_form description.now ≡ true },
-    ghost right: { (id : List ℕ) → told (url_of root.now) places id ≡ noted_all id None (operations_in root.now) },
+    ghost right: { (id : List ℕ) → told (url_of root.now) places id ≡ operation_named id (operations_in root.now) },
 }
 
 impl<'a> Operations<'a> {
-    ghost use Rattle.arz_bundle.specs.Forms.{has_operation as operation_for, has_operations as operations_for, serves};
+    ghost use Rattle.arz_bundle.specs.Forms.{serves_step, serves_workflow, serves};
 
     /// The operations of a document.
     pub fn of(
@@ -53,7 +52,7 @@ impl<'a> Operations<'a> {
         })
     }
 
-    /// Whether the document has the operations of all steps of the description.
+    /// Whether each step of the description may call the operation that it names, where the document has it.
     pub fn serve_all(&self) -> bool
         ensures { result ≡ serves self.now.description.now self.now.root.now }
     {
@@ -63,33 +62,31 @@ impl<'a> Operations<'a> {
     }
 
     fn serve(&self, workflow: &Json) -> bool
-        ensures { result ≡ operations_for self.now.description.now self.now.root.now workflow.now }
+        ensures { result ≡ serves_workflow self.now.description.now self.now.root.now workflow.now }
     {
         items_at(workflow, "steps")
             .iter()
-            .all(|step| self.has_operation(step))
+            .all(|step| self.serve_step(step))
     }
 
-    // Whether exactly one operation of the document has the step's operationId, and the step may call it.
-    fn has_operation(&self, step: &Json) -> bool
-        ensures { result ≡ operation_for self.now.description.now self.now.root.now step.now }
+    fn serve_step(&self, step: &Json) -> bool
+        ensures { result ≡ serves_step self.now.description.now self.now.root.now step.now }
     {
         match self.places.get(text_at(step, "operationId")) {
-            Some(Some((item, member))) => is_callable(
+            Some(place) => is_callable(
                 self.description,
                 step,
-                item.name.as_str(),
-                member.name.as_str(),
+                place.0.name.as_str(),
+                place.1.name.as_str(),
             ),
-            Some(None) => false,
-            None => false,
+            None => true,
         }
     }
 }
 
 // Notes the operations of a path item.
 fn note_all<'a>(places: &mut Places<'a>, item: &'a Member) -> Result<(), AllocError>
-    ensures { OnOk result ((url id : List ℕ) → told url places.new id ≡ noted_all id (told url places.old id) (operations_under url item.now)) }
+    ensures { OnOk result ((url id : List ℕ) → told url places.new id ≡ option_or (told url places.old id) (operation_named id (operations_under url item.now))) }
 {
     for member in item.value.as_object().unwrap_or(&[]) {
         note(places, item, member)?;
@@ -97,16 +94,14 @@ fn note_all<'a>(places: &mut Places<'a>, item: &'a Member) -> Result<(), AllocEr
     Ok(())
 }
 
-// Notes one operation: it alone has its operationId so far, or several have it.
+// Notes one operation, where none before has its operationId.
 fn note<'a>(places: &mut Places<'a>, item: &'a Member, member: &'a Member) -> Result<(), AllocError>
     ensures { OnOk result ((url id : List ℕ) → told url places.new id
-        ≡ (if bytes_eq (text_under (codes "operationId") member.now.value) id
-        then noted (told url places.old id) (operation_at url item.now.name member.now) else told url places.old id)) }
+        ≡ option_or (told url places.old id) (operation_named id (operation_at url item.now.name member.now ∷ []))) }
 {
     let id = text_at(&member.value, "operationId");
-    let old = places.insert(id, Some((item, member)))?;
-    if old.is_some() {
-        places.insert(id, None)?;
+    if places.get(id).is_none() {
+        places.insert(id, (item, member))?;
     }
     Ok(())
 }

@@ -12,8 +12,8 @@ use arz_json::{Json, Member};
 use arz_rules::is_version;
 use std::alloc::{AllocError, Global};
 
-/// Whether the tree is a source document (OpenAPI 3.1.1, 4.8.1) that has the operations of the
-/// description's steps.
+/// Whether the tree is a source document (OpenAPI 3.1.1, 4.8.1) whose operations the steps of a description may
+/// call, where they name them.
 pub(crate) fn is_source(alloc: Global, description: &Json, root: &Json) -> Result<bool, AllocError>
     requires { has_form description.now ≡ true }
     ensures { IfOk result (λ is. is ≡ source description.now root.now) }
