@@ -13,7 +13,6 @@ use Rattle.arz_json.specs.declared.tree.Json.{out-Json}
 use Rattle.arz_json.specs.declared.Member.{Member}
 use Rattle.arz_json.specs.declared.Token.TheVariants.{Name, Index}
 use Rattle.arz_rules.specs.declared.kinds.Kind.{Kind}
-use Rattle.arz_rules.specs.declared.kinds.Kind.TheVariants as Kind
 use Rattle.arz_rules.specs.declared.forms.Others.TheVariants.{Are}
 use Rattle.arz_rules.specs.declared.forms.Size.TheVariants.{NotEmpty}
 use Rattle.arz_rules.specs.Misses.{misses, named_misses, has_name, is_complete, has_size}

@@ -3,12 +3,12 @@ use Rattle.std.proofs.Common.{◌≡◌, ℕ, zero, suc, ◌<◌, Bool, true, fa
 use Rattle.std.specs.Prelude.{option_map}
 use Rattle.std.specs.Str.{bytes_eq}
 use Rattle.std.proofs.lemmas.Slice.Eq.{bytes_eq-Decides}
-use Rattle.arz_json.specs.Look.{list_in, list_step, object_in, object_step}
+use Rattle.arz_json.specs.Look.{list_step, object_step}
 use Rattle.arz_json.specs.Pointer.{member_named}
 use Rattle.arz_json.specs.Tree.{has_opaque, some_true}
 use Rattle.arz_json.specs.declared.Json.{Json}
 use Rattle.arz_json.specs.declared.Json.TheVariants as json
-use Rattle.arz_json.specs.declared.tree.Json.{out-Json, the_lemmas}
+use Rattle.arz_json.specs.declared.tree.Json.{the_lemmas}
 use Rattle.arz_json.specs.declared.tree.Json.TheOpen.{Json-F}
 use Rattle.arz_json.specs.declared.Member.{Member}
 use Rattle.arz_json.specs.declared.Token.{Token}
@@ -16,7 +16,6 @@ use Rattle.arz_json.specs.declared.Token.TheVariants.{Name, Index}
 use Rattle.arz_json.proofs.Induction.{Each, EachValue, induction}
 use Rattle.arz_json.proofs.Layers.{folded-List, folded-Object, has_opaque_object}
 use Rattle.arz_rules.specs.declared.kinds.Kind.{Kind}
-use Rattle.arz_rules.specs.declared.kinds.Kind.TheVariants as Kind
 use Rattle.arz_rules.specs.declared.forms.Others.{Others}
 use Rattle.arz_rules.specs.declared.forms.Others.TheVariants.{Are}
 use Rattle.arz_rules.specs.declared.forms.Size.{Size}

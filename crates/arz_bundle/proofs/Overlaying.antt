@@ -1,5 +1,5 @@
 -- One overlay, and one after another.
-use Rattle.std.proofs.Common.{◌≡◌, ◌≢◌, inl, inr, ◌+◌, ◌<◌, ◌≤◌, ℕ, suc, List, [], ◌∷◌, map, drop, drop-cons, get_or, length, Bool, true, false, cond, Option, Result, Ok, Err, IfOk, refl, sym, ap, ◌∙◌, subst, arith, add-one, le_trans}
+use Rattle.std.proofs.Common.{◌≡◌, ◌≢◌, inl, inr, ◌+◌, ◌<◌, ◌≤◌, ℕ, List, ◌∷◌, map, drop, drop-cons, get_or, length, Result, Ok, Err, refl, sym, ap, ◌∙◌, subst, arith, add-one, le_trans}
 use Rattle.std.proofs.lemmas.List.{drop_all}
 use Rattle.arz_json.specs.Answer.{Fails}
 use Rattle.arz_json.specs.Tree.{IsWithin}
@@ -14,13 +14,13 @@ use Rattle.arz_path.specs.Results.{Asked}
 use Rattle.arz_rx.specs.Patterns.{PatternsView}
 use Rattle.arz_world.specs.Outside.{FilesView}
 use Rattle.arz_bundle.specs.declared.fault.LoadFault.{LoadFault}
-use Rattle.arz_bundle.specs.declared.fault.LoadFault.TheVariants.{Refused, Pattern, Memory}
+use Rattle.arz_bundle.specs.declared.fault.LoadFault.TheVariants.{Refused, Pattern}
 use Rattle.arz_bundle.specs.declared.overlays.Listed.{Listed as ListedHere}
 use Rattle.arz_bundle.specs.FileTree.{HasTree, Given, overlay_fault}
 use Rattle.arz_bundle.specs.Loading.{Taken, Applied, OneOverlay, Overlaid}
 use Rattle.arz_bundle.specs.Overlays.{Listed, seen, overlay_label}
 use Rattle.arz_bundle.proofs.Stages.{had-none}
-use Rattle.arz_bundle.proofs.Wholes.{Later, FilesPart, files-whole, files-begin, files-end, patterns-whole, patterns-begin, patterns-end, overlay-wider, overlaid-wider, ok-no-fault, same-fault, same-tree, no-tree-given, as-it-is}
+use Rattle.arz_bundle.proofs.Wholes.{Later, files-whole, files-begin, files-end, patterns-whole, patterns-begin, patterns-end, overlay-wider, overlaid-wider, ok-no-fault, same-fault, same-tree, no-tree-given, as-it-is}
 
 -- ---- the overlays of a list
 

@@ -1,10 +1,10 @@
 -- Where something is told of each pattern and text, it is told what an overlay makes of a tree.
-use Rattle.std.proofs.Common.{◌≡◌, ◌≢◌, ℕ, suc, List, [], ◌∷◌, Option, Some, None, Result, Ok, Err}
+use Rattle.std.proofs.Common.{◌≢◌, ℕ, suc, List, [], ◌∷◌, Option, Some, None, Result, Ok, Err}
 use Rattle.std.specs.Prelude.{map}
 use Rattle.std.specs.Option.{IsSome}
 use Rattle.arz_json.specs.declared.Json.{Json}
 use Rattle.arz_json.specs.declared.Refusal.{Refusal}
-use Rattle.arz_overlay.specs.Documents.{Document, actions_in, target_of, segments_of, action_place}
+use Rattle.arz_overlay.specs.Documents.{Document, actions_in, target_of, segments_of}
 use Rattle.arz_overlay.specs.Overlaid.{Patterned, done_after, within, done, after_action, overlaid_from, overlaid}
 use Rattle.arz_changes.specs.Removal.{Places}
 use Rattle.arz_path.proofs.Told.{selected_is_told}

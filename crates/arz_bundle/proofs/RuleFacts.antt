@@ -10,7 +10,6 @@ use Rattle.arz_json.specs.declared.tree.Json.TheOpen.{Json-F}
 use Rattle.arz_json.specs.declared.Member.{Member}
 use Rattle.arz_json.specs.declared.Token.TheVariants.{Name, Index}
 use Rattle.arz_rules.specs.declared.kinds.Kind.{Kind}
-use Rattle.arz_rules.specs.declared.kinds.Kind.TheVariants as Kind
 use Rattle.arz_rules.specs.declared.forms.Others.TheVariants.{Are}
 use Rattle.arz_rules.specs.declared.forms.Size.TheVariants.{Any}
 use Rattle.arz_rules.specs.Kinds.{form_of}

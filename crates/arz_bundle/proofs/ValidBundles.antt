@@ -1,5 +1,5 @@
 -- What comes of files that pass their rules: a valid bundle, and replies with their statuses.
-use Rattle.std.proofs.Common.{◌≡◌, ℕ, true, List, [], ◌∷◌, map, get_or, Option, None, Some, All, codes, refl, arith, lt-ltb}
+use Rattle.std.proofs.Common.{◌≡◌, ℕ, true, List, [], map, get_or, Option, None, Some, All, codes, refl, arith, lt-ltb}
 use Rattle.std.specs.Prelude.{nat_lt, unwrap_or}
 use Rattle.std.specs.Option.{ForSome}
 use Rattle.std.proofs.lemmas.List.Elements.{All-map}
@@ -12,7 +12,6 @@ use Rattle.arz_json.specs.declared.Member.{Member}
 use Rattle.arz_json.specs.declared.Named.{Named}
 use Rattle.arz_json.proofs.Layers.{folded-Object}
 use Rattle.arz_json.proofs.Parts.{IsWithin-more, IsWithin-list_in, IsWithin-object_in, IsWithin-member_in, IsWellFormed-item}
-use Rattle.arz_world.specs.declared.Reply.{Reply}
 use Rattle.arz_flow.specs.Documents.{members_at}
 use Rattle.arz_flow.specs.Valid.{IsValid}
 use Rattle.arz_rules.specs.Misses.{misses}

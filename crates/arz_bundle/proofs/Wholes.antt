@@ -1,5 +1,5 @@
 -- What comes of a part of a call comes of the whole call.
-use Rattle.std.proofs.Common.{◌≡◌, ◌⊎◌, inl, inr, ◌≤◌, ℕ, List, [], ◌∷◌, codes, Option, Some, None, Result, Ok, Err, refl, sym, ap, subst, arith}
+use Rattle.std.proofs.Common.{◌≡◌, inl, inr, ◌≤◌, ℕ, List, [], ◌∷◌, codes, Option, Some, None, Result, Ok, Err, refl, ap, subst, arith}
 use Rattle.arz_json.specs.Look.{items_at}
 use Rattle.arz_json.specs.declared.Json.{Json}
 use Rattle.arz_json.specs.declared.Named.{Named}

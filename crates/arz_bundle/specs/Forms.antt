@@ -1,5 +1,5 @@
 -- The form that is built of a source document (OpenAPI 3.1.1, 4.8), for the steps of a description.
-use Rattle.std.specs.Prelude.{◌==◌, ◌&&◌, List, [], ◌∷◌, Bool, codes, nat_eq}
+use Rattle.std.specs.Prelude.{◌&&◌, List, [], ◌∷◌, Bool, codes, nat_eq}
 use Rattle.std.specs.List.{list_all, list_any, starts_with}
 use Rattle.std.specs.Str.{bytes_eq}
 use Rattle.arz_json.specs.declared.tree.Json.{Json}

@@ -1,4 +1,4 @@
-use Rattle.std.proofs.Common.{◌≡◌, inl, inr, List, codes, refl, ap, sym, ◌∙◌, subst, Option, None, Some, Result, Ok, Err}
+use Rattle.std.proofs.Common.{◌≡◌, inl, inr, List, codes, refl, subst, Option, None, Some, Result, Ok, Err}
 use Rattle.arz_json.specs.Look.{items_at}
 use Rattle.arz_json.specs.declared.Json.{Json}
 use Rattle.arz_json.specs.declared.Named.{Named}
@@ -11,9 +11,8 @@ use Rattle.arz_flow.specs.declared.bundle.Bundle.{Bundle}
 use Rattle.arz_bundle.specs.declared.fault.LoadFault.{LoadFault}
 use Rattle.arz_bundle.specs.declared.fault.LoadFault.TheVariants.{Refused}
 use Rattle.arz_bundle.specs.FileTree.{Checks, GivenSources, OrMemory, load_fault}
-use Rattle.arz_bundle.specs.Loading.{Tells, FromSources, AfterSources, AfterBuilt}
+use Rattle.arz_bundle.specs.Loading.{FromSources, AfterSources, AfterBuilt}
 use Rattle.arz_bundle.specs.Phases.{steps_told, form_told}
-use Rattle.arz_bundle.specs.Setup.{bundle_of}
 use Rattle.arz_bundle.proofs.Stages.{exit, tells-refused, tells-on}
 use Rattle.arz_bundle.proofs.ValidBundles.{valid-bundle}
 use Rattle.arz_bundle.proofs.Wholes.{sources-given, sources-none}

@@ -1,5 +1,4 @@
-use Rattle.std.proofs.Common.{◌≡◌, ℕ, Bool, List, [], ◌∷◌, ◌++◌, codes, ap, ◌∙◌}
-use Rattle.arz_json.specs.declared.Token.{Token}
+use Rattle.std.proofs.Common.{ℕ, Bool, List, [], ◌∷◌, ◌++◌, codes, ap, ◌∙◌}
 use Rattle.arz_rules.specs.Place.{lesser, least, tokens_in}
 use Rattle.arz_rules.specs.Sets.{has, bad_names, bad_text}
 use Rattle.arz_rules.specs.Sites.{member, each_item, at}

@@ -1,4 +1,4 @@
-use Rattle.std.proofs.Common.{map, [], Ok, Err}
+use Rattle.std.proofs.Common.{map}
 use Rattle.arz_bundle.specs.FileTree.{Given}
 use Rattle.arz_bundle.specs.Loading.{Overlaid}
 use Rattle.arz_bundle.specs.Overlays.{seen}

@@ -1,4 +1,4 @@
-use Rattle.std.proofs.Common.{◌≡◌, ◌≤◌, ℕ, List, drop, map}
+use Rattle.std.proofs.Common.{drop, map}
 use Rattle.arz_json.specs.Tree.{IsWithin}
 use Rattle.arz_path.specs.Results.{Asked}
 use Rattle.arz_bundle.specs.Overlays.{seen}

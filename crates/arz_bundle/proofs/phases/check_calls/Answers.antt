@@ -1,5 +1,4 @@
-use Rattle.std.proofs.Common.{codes, ap, subst}
-use Rattle.arz_json.specs.Look.{members_at}
+use Rattle.std.proofs.Common.{codes, subst}
 use Rattle.arz_sources.specs.Rules.{rules}
 use Rattle.arz_bundle.specs.FileTree.{Checks}
 use Rattle.arz_bundle.specs.Phases.{steps_told, told}

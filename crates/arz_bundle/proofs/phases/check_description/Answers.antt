@@ -1,6 +1,5 @@
-use Rattle.std.proofs.Common.{Option, refl}
+use Rattle.std.proofs.Common.{refl}
 use Rattle.std.proofs.lemmas.Result.{err_from_is_err_and}
-use Rattle.arz_json.specs.declared.Refusal.{Refusal}
 use Rattle.arz_rules.specs.Phases.{first_failure}
 use Rattle.arz_doc.specs.Order.{rules}
 use Rattle.arz_doc.proofs.Numbered.{some_test}

@@ -1,5 +1,4 @@
-use Rattle.std.proofs.Common.{◌≡◌, refl, ap, sym, subst, ◌∙◌, codes, Result, Ok, Err, Some, List, ℕ}
-use Rattle.arz_json.specs.Look.{text_at}
+use Rattle.std.proofs.Common.{◌≡◌, ap, ◌∙◌, Ok, Err, Some, List, ℕ}
 use Rattle.arz_json.specs.declared.Json.{Json}
 use Rattle.arz_json.specs.declared.Named.{Named}
 use Rattle.arz_bundle.specs.FileTree.{GivenSource, load_fault}

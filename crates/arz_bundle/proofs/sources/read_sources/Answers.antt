@@ -1,4 +1,4 @@
-use Rattle.std.proofs.Common.{[], ◌∷◌, Ok, Err}
+use Rattle.std.proofs.Common.{[], ◌∷◌}
 use Rattle.std.proofs.lemmas.List.Elements.{All-append, All-nil, All-cons}
 use Rattle.arz_bundle.specs.declared.fault.LoadFault.TheVariants.{Memory}
 use Rattle.arz_bundle.specs.FileTree.{GivenSources}
