@@ -2,22 +2,23 @@
 use Rattle.std.proofs.Common.{◌≡◌, ◌≢◌, ◌<◌, ◌≤◌, inl, inr, ℕ, List, [], ◌∷◌, length, codes, Option, None, Some, Result, Ok, Err, refl, sym, ap, ◌∙◌, subst, arith}
 use Rattle.arz_json.specs.Look.{items_at}
 use Rattle.arz_json.specs.declared.Json.{Json}
+use Rattle.arz_json.specs.declared.Named.{Named}
 use Rattle.arz_json.proofs.Readings.{Reads-unique}
-use Rattle.arz_overlay.specs.Applied.{Says}
 use Rattle.arz_overlay.specs.Documents.{Document, document}
 use Rattle.arz_overlay.specs.Overlaid.{overlaid}
 use Rattle.arz_rx.specs.Patterns.{PatternsView}
 use Rattle.arz_world.specs.Outside.{FilesView, ReadsAs, Rose, Told}
 use Rattle.arz_json.specs.declared.Refusal.{Refusal}
+use Rattle.arz_flow.specs.declared.bundle.Bundle.{Bundle}
 use Rattle.arz_bundle.specs.declared.fault.LoadFault.{LoadFault}
-use Rattle.arz_bundle.specs.declared.fault.LoadFault.TheVariants.{Refused, Pattern, Memory}
-use Rattle.arz_bundle.specs.Loading.{file_limit, IsFile, NoFile, Tells, Judged, Reading, Taken, Applied, Overlaid, ReadingOverlaid, source_name, source_label, source_path, AfterSource, FromSource, AfterDescription, FromDescription, AfterSetup, Loads, AfterReplies, Gives_replies}
+use Rattle.arz_bundle.specs.declared.fault.LoadFault.TheVariants.{Refused, Memory}
+use Rattle.arz_bundle.specs.Loading.{file_limit, IsFile, NoFile, Tells, Judged, Reading, Taken, Applied, Overlaid, ReadingOverlaid, source_name, named, FromSources, AfterSources, AfterBuilt, AfterDescription, FromDescription, AfterSetup, Loads, AfterReplies, Gives_replies}
 use Rattle.arz_doc.proofs.OneTest.{same_rules}
 use Rattle.arz_bundle.specs.Naming.{naming_rules}
 use Rattle.arz_bundle.specs.Overlays.{Listed, items_for, overlays_for, overlay_label}
-use Rattle.arz_bundle.specs.Phases.{told as told_of, earlier, setup_told, IsDescribed, unbuilt_told, source_told, replies_told}
+use Rattle.arz_bundle.specs.Phases.{told as told_of, earlier, setup_told, IsDescribed, unbuilt_told, source_label, source_told, steps_told, form_told, replies_told}
 use Rattle.arz_bundle.specs.Replies.{replies_of}
-use Rattle.arz_bundle.specs.Setup.{description_path, bundle_of}
+use Rattle.arz_bundle.specs.Setup.{description_path, path_of_source, bundle_of}
 use Rattle.arz_top.specs.Steady.{IsSteady, IsFileAt, ArePatternsSteady, ListsOverlay}
 
 -- all results of this kind are one, but want of memory
@@ -138,18 +139,33 @@ module _ (before now : FilesView) (old new : PatternsView) (steady : IsSteady be
 
 module _ (before now : FilesView) (old new : PatternsView) (steady : IsSteady before now) where
   module _ (setup : Json) (sure : items_at (codes "overlays") setup ≢ [] → ArePatternsSteady before old new) where
-    source-one : (description : Json) → IsOne (FromSource before now old new setup description)
-    source-one description =
-        document-one before now old new steady (AfterSource setup description)
-        (λ tree. gives-one (source_told (source_label description) description tree) (Ok (bundle_of setup description tree (source_name description))))
-        (source_path setup description) (source_label description) (overlays_for (Some (source_name description)) setup)
-        (λ some. sure (lists-some (Some (source_name description)) setup some))
+    sources-one : {A : Type 0} (described : List Json) (Next : List Named → Result A LoadFault → Type 0) → ((sources : List Named) → IsOne (Next sources))
+        → IsOne (FromSources before now old new setup described Next)
+    sources-one [] Next one = one []
+    sources-one {A} (source ∷ described) Next one =
+        let whose = Some (source_name source) in
+        let label = source_label (source_name source) in
+        let Rest : Json → Result A LoadFault → Type 0 = λ root. FromSources before now old new setup described (λ sources. Next (named source root ∷ sources)) in
+        document-one before now old new steady (λ root. Tells (source_told label root) (Rest root))
+        (λ root. tells-one (source_told label root) (Rest root)
+        (sources-one described (λ sources. Next (named source root ∷ sources)) (λ sources. one (named source root ∷ sources))))
+        (path_of_source setup source) label (overlays_for whose setup) (λ some. sure (lists-some whose setup some))
+
+    after-one : (description : Json) (sources : List Named) → IsOne (AfterSources setup description sources)
+    after-one description sources =
+        let bundle = bundle_of setup description sources in
+        let Made : Result Bundle LoadFault → Type 0 = λ x. x ≡ Ok bundle in
+        tells-one (steps_told setup description sources) (Tells (form_told description sources) Made) (gives-one (form_told description sources) (Ok bundle))
+
+    built-one : (description : Json) → IsOne (AfterBuilt before now old new setup description)
+    built-one description = sources-one (items_at (codes "sourceDescriptions") description) (AfterSources setup description) (after-one description)
 
     described-one : (description : Json) → IsOne (AfterDescription before now old new setup description)
     described-one description x y mx my (told, described, came) (other, described', came') =
-        let Then = Tells (unbuilt_told setup description) (FromSource before now old new setup description) in
-        tells-one told Then (tells-one (unbuilt_told setup description) (FromSource before now old new setup description) (source-one description)) x y mx my came
-        (subst (λ o. Tells o Then y) (one-described setup description other told described' described) came')
+        let unbuilt = unbuilt_told setup description in
+        let Then = AfterBuilt before now old new setup description in
+        tells-one told (Tells unbuilt Then) (tells-one unbuilt Then (built-one description)) x y mx my came
+        (subst (λ o. Tells o (Tells unbuilt Then) y) (one-described setup description other told described' described) came')
 
     description-one : IsOne (FromDescription before now old new setup)
     description-one =
