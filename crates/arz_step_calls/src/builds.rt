@@ -23,7 +23,14 @@ pub fn build(alloc: Global, case: &Case<'_>) -> Result<Outcome, CaseFault> {
     let description = described(alloc, &tree)?;
     let step = first_step(&description).ok_or(CaseFault::Malformed("description"))?;
     let parameters = &step.parameters;
-    match build_request(alloc, &operation, &server, parameters, step.body.as_ref(), &scope) {
+    match build_request(
+        alloc,
+        &operation,
+        &server,
+        parameters,
+        step.body.as_ref(),
+        &scope,
+    ) {
         Ok(request) => Ok(Outcome {
             text: write_request(alloc, &request)?.into_std(),
             status: None,
