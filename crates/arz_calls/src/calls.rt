@@ -2,7 +2,6 @@
 use crate::{descriptions, operations, styles};
 use arz_cases::{Case, CaseFault, Outcome};
 use arz_device_calls::DeviceCall;
-use arz_step_calls::StepCall;
 use std::alloc::Global;
 
 /// What a case calls.
@@ -15,16 +14,11 @@ pub enum LibraryCall {
     Style,
     /// A call of `arz_device_calls`.
     Device(DeviceCall),
-    /// A call of `arz_step_calls`.
-    Step(StepCall),
 }
 
 impl LibraryCall {
     /// The call with this name.
     pub fn named(name: &str) -> Option<LibraryCall> {
-        if let Some(call) = StepCall::named(name) {
-            return Some(LibraryCall::Step(call));
-        }
         Some(match name {
             "description" => LibraryCall::Description,
             "form" => LibraryCall::Form,
@@ -44,7 +38,6 @@ impl LibraryCall {
             LibraryCall::Operation => operations::operation(alloc, case),
             LibraryCall::Style => styles::style(alloc, case),
             LibraryCall::Device(call) => call.outcome(alloc, case),
-            LibraryCall::Step(call) => call.outcome(alloc, case),
         }
     }
 }
