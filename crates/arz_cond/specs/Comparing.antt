@@ -19,11 +19,11 @@ use Rattle.arz_cond.specs.declared.term.Comparison.TheVariants.{Equal, Unequal, 
 
 -- ---- texts
 
--- the characters with case folded (The Unicode Standard, section 3.13, R4)
+-- the characters with case folded: toCasefold of the Unicode Standard, section 3.13, Default Case Folding
 abbrev pub folded : List ℕ → List ℕ
 folded text = default_case_fold (chars text)
 
--- the default caseless match (D144)
+-- the default caseless match (section 3.13, Default Caseless Matching)
 unfoldable pub same_text : List ℕ → List ℕ → Bool
 same_text s t = bytes_eq (folded s) (folded t)
 
