@@ -6,8 +6,8 @@ use Rattle.arz_json.specs.Look.{text_at}
 use Rattle.arz_json.specs.declared.tree.Json.{Json}
 use Rattle.arz_expr.specs.Grammar.{is_name, is_pointer_byte, is_rooted, escapes_tildes}
 use Rattle.arz_components.specs.Texts.{after, text_named}
-use Rattle.arz_description.specs.declared.parts.Call.{Call}
-use Rattle.arz_description.specs.declared.parts.Call.TheVariants.{Id, At, Flow}
+use Rattle.arz_operation.specs.declared.types.Call.{Call}
+use Rattle.arz_operation.specs.declared.types.Call.TheVariants.{Id, At, Flow}
 
 -- ---- an operationId
 

@@ -1,5 +1,6 @@
 -- What a step gives to its request: parameters and a body.
-use Rattle.std.specs.Prelude.{ℕ, List, map, codes, Option, Some, None, option_map, option_and_then, unwrap_or, IfSome, if◌then◌else◌}
+use Rattle.std.specs.Prelude.{ℕ, ◌&&◌, not, Bool, List, ◌++◌, map, filter, codes, Option, Some, None, option_map, option_and_then, unwrap_or, IfSome, if◌then◌else◌}
+use Rattle.std.specs.List.{list_any}
 use Rattle.std.specs.Str.{bytes_eq}
 use Rattle.arz_json.specs.Look.{member_in, text_at, items_at}
 use Rattle.arz_json.specs.Tree.{IsWellFormed}
@@ -10,6 +11,7 @@ use Rattle.arz_json.specs.declared.tree.Location.TheVariants.{Path, Query, Heade
 use Rattle.arz_expr.specs.declared.template.Given.{Given}
 use Rattle.arz_expr.specs.declared.template.Replacement.{Replacement}
 use Rattle.arz_expr.specs.declared.template.Body.{Body}
+use Rattle.arz_operation.specs.Named.{is_same}
 use Rattle.arz_components.specs.Described.{Components}
 use Rattle.arz_components.specs.Texts.{text_named}
 use Rattle.arz_components.specs.declared.components.Part.{Part}
@@ -46,6 +48,18 @@ given_by component item = record {
 
 abbrev pub given_of : Components → Json → Given
 given_of find item = given_by (meant find Parameters item) item
+
+-- the parameters that a step or a workflow lists
+abbrev pub givens_of : Components → Json → List Given
+givens_of find j = map (given_of find) (items_at (codes "parameters") j)
+
+-- two parameters with one name and one place
+abbrev pub is_same_parameter : Given → Given → Bool
+is_same_parameter g h = is_same g.place h.place && bytes_eq g.name h.name
+
+-- those of a step, and then those of its workflow that the step doesn't give itself (section 4.6.4.1)
+abbrev pub joined_givens : (own others : List Given) → List Given
+joined_givens own others = own ++ filter (λ g. not (list_any (is_same_parameter g) own)) others
 
 -- ---- a request body (section 4.6.13); one without a payload is none
 

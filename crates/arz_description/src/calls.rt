@@ -4,9 +4,9 @@ ghost use Rattle.std.specs.List.{list_all};
 ghost use Rattle.arz_expr.specs.Grammar.{is_name_byte as name_byte, is_name as name, is_pointer_byte as pointer_byte, is_rooted as rooted, escapes_tildes as escapes, begins_with_digit_of_escape};
 ghost use Rattle.arz_description.specs.Calls.{dotted as dotted_text, source_and_id as id_parts, source_and_pointer as path_parts, is_path_pointer as path_pointer, operation_with, operation_at, call_of};
 
-use crate::parts::Call;
 use arz_components::{after, text_of};
 use arz_json::{Json, Text, split_once};
+use arz_operation::Call;
 use std::alloc::{AllocError, Global};
 
 fn is_name_byte(byte: u8) -> bool

@@ -13,6 +13,8 @@ mod steps;
 mod whole;
 
 pub use arz_expr::{Body, Given, Replacement};
+pub use arz_operation::Call;
 pub use calls::{source_and_id, source_and_pointer};
-pub use parts::{Act, Action, Call, Criterion, Description, First, Output, Source, Step, Workflow};
+pub use parts::{Act, Action, Criterion, Description, First, Output, Source, Step, Workflow};
+pub use requests::{read_body, read_givens};
 pub use whole::described;

@@ -1,5 +1,6 @@
 use arz_expr::{Body, Expr, Given};
 use arz_json::{Many, Text};
+use arz_operation::Call;
 
 /// A source description (Arazzo 1.0.1, section 4.6.3).
 #[derive(Debug, Drop)]
@@ -56,17 +57,6 @@ pub struct Action {
 pub struct Output {
     pub name: Text,
     pub value: Expr,
-}
-
-/// What a step calls (Arazzo 1.0.1, section 4.6.5).
-#[derive(Debug, Drop)]
-pub enum Call {
-    /// The operation with this operationId: in the source with this name where one is written, else in any.
-    Id(Option<Text>, Text),
-    /// The operation at a place of the source with this name: a JSON Pointer (RFC 6901), as it is written.
-    At(Text, Text),
-    /// The workflow with this workflowId.
-    Flow(Text),
 }
 
 /// A step (Arazzo 1.0.1, section 4.6.5).

@@ -17,10 +17,10 @@ use Rattle.arz_flow.specs.declared.answers.End.{End}
 use Rattle.arz_flow.specs.declared.answers.End.TheVariants.{Completed as EndCompleted, Broke as EndBroke, Out as EndOut, Stuck as EndStuck, Budget as EndBudget}
 use Rattle.arz_flow.specs.declared.answers.Spot.{Spot}
 use Rattle.arz_flow.specs.declared.bundle.Bundle.{Bundle}
-use Rattle.arz_flow.specs.Documents.{steps_of}
-use Rattle.arz_flow.specs.Outcomes.{Made}
+use Rattle.arz_flow.specs.Documents.{steps_of, workflow_named}
+use Rattle.arz_request.specs.Causes.{Made}
 use Rattle.arz_flow.specs.Requests.{request_of}
-use Rattle.arz_flow.specs.Scopes.{Nothing, found}
+use Rattle.arz_scope.specs.Scopes.{Nothing, found}
 use Rattle.arz_flow.specs.Play.{Result, Completed, Broke, NoStep, Stuck, Budget, Seen, sends_in, State, seen, Play, Spent, Lost, Out, Ends, Gives, Script, Give, Stops, Sends, Waits, Plays, Records, then_play, take_reply, take_served, after, turn, follow, play}
 use Rattle.arz_flow.specs.Cases.{Case, Runs, Enters, Goes_on, Closes, after_run, with_step, with_request, within_budget, spot, surroundings, after_reply, attempt, script}
 use Rattle.arz_flow.specs.Executions.{whole, start, fuel, end_of, end_of_result, asks_of}
@@ -177,7 +177,7 @@ module _ (b : Bundle) where
   script_spares (Runs w inputs) v = λ o u. ends_spares w inputs o u
   script_spares (Enters r i) v =
       step_spares (slice_get (steps_of b r.workflow) i) v.asked (attempt b r i v) (λ step.
-      request_spares (request_of b (found (surroundings b r v.done) Nothing) step) (spot r step) v.asked (λ q. within_budget b v (Sends q (after_reply b r i step q))) (λ q.
+      request_spares (request_of b (found (surroundings b r v.done) Nothing) (workflow_named r.workflow b.arazzo) step) (spot r step) v.asked (λ q. within_budget b v (Sends q (after_reply b r i step q))) (λ q.
       send_spares v q (after_reply b r i step q) (λ y u. λ o w. tt)))
   script_spares (Goes_on r i true) v = λ o u. tt
   script_spares (Goes_on r i false) v = λ o u. tt

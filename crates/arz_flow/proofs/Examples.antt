@@ -14,7 +14,7 @@ use Rattle.arz_flow.specs.declared.answers.End.TheVariants.{Broke, Out, Budget}
 use Rattle.arz_flow.specs.declared.bundle.Bundle.{Bundle}
 use Rattle.arz_flow.specs.Documents.{steps_of, workflow_named}
 use Rattle.arz_flow.specs.Requests.{request_of}
-use Rattle.arz_flow.specs.Scopes.{Nothing, found}
+use Rattle.arz_scope.specs.Scopes.{Nothing, found}
 use Rattle.arz_flow.specs.Cases.{script, is_success, begun, surroundings}
 use Rattle.arz_flow.specs.Executions.{end}
 use Rattle.arz_flow.proofs.Executions.{end_whole}
@@ -25,12 +25,12 @@ unspent zero lt = absurd (omega (arith, lt))
 unspent (suc n) lt = eqb-zero-suc n
 
 -- no answer: its request is asked for
-pub one_out : (b : Bundle) (step : Json) (q : Request) → steps_of b b.workflow ≡ step ∷ [] → request_of b (found (surroundings b (begun b.workflow b.inputs) []) Nothing) step ≡ Ok q → 0 < b.max_attempts → end b [] ≡ Some (Out (Send q))
+pub one_out : (b : Bundle) (step : Json) (q : Request) → steps_of b b.workflow ≡ step ∷ [] → request_of b (found (surroundings b (begun b.workflow b.inputs) []) Nothing) (workflow_named b.workflow b.arazzo) step ≡ Ok q → 0 < b.max_attempts → end b [] ≡ Some (Out (Send q))
 unfolding script
 one_out b step q e f lt = let more = unspent b.max_attempts lt in rw (e, f, more) (refl {a = Some (Out (Send q))})
 
 -- no request may be sent
-pub one_budget : (b : Bundle) (step : Json) (q : Request) → steps_of b b.workflow ≡ step ∷ [] → request_of b (found (surroundings b (begun b.workflow b.inputs) []) Nothing) step ≡ Ok q → b.max_attempts ≡ 0 → end b [] ≡ Some (Budget 0)
+pub one_budget : (b : Bundle) (step : Json) (q : Request) → steps_of b b.workflow ≡ step ∷ [] → request_of b (found (surroundings b (begun b.workflow b.inputs) []) Nothing) (workflow_named b.workflow b.arazzo) step ≡ Ok q → b.max_attempts ≡ 0 → end b [] ≡ Some (Budget 0)
 unfolding script
 one_budget b step q e f none = rw (e, f, none) refl
 
@@ -39,7 +39,7 @@ empty_is_plain : has_opaque (Object []) ≡ false
 empty_is_plain = folded-Object Bool opaque_step []
 
 -- a reply of another status than one of success: the run is broken
-pub one_broke : (b : Bundle) (step : Json) (q : Request) (y : Reply) → steps_of b b.workflow ≡ step ∷ [] → workflow_named b.workflow b.arazzo ≡ None → request_of b (found (surroundings b (begun b.workflow b.inputs) []) Nothing) step ≡ Ok q → 0 < b.max_attempts → is_success y ≡ false → end b (Replied y ∷ []) ≡ Some (Broke [])
+pub one_broke : (b : Bundle) (step : Json) (q : Request) (y : Reply) → steps_of b b.workflow ≡ step ∷ [] → workflow_named b.workflow b.arazzo ≡ None → request_of b (found (surroundings b (begun b.workflow b.inputs) []) Nothing) (workflow_named b.workflow b.arazzo) step ≡ Ok q → 0 < b.max_attempts → is_success y ≡ false → end b (Replied y ∷ []) ≡ Some (Broke [])
 unfolding script
 one_broke b step q y e w f lt g =
     let more = unspent b.max_attempts lt in

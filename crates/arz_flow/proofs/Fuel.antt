@@ -4,14 +4,14 @@ use Rattle.std.specs.Prelude.{slice_get}
 use Rattle.arz_json.specs.declared.Json.{Json}
 use Rattle.arz_json.specs.declared.Member.{Member}
 use Rattle.arz_flow.specs.declared.bundle.Bundle.{Bundle}
-use Rattle.arz_flow.specs.Documents.{steps_of}
+use Rattle.arz_flow.specs.Documents.{steps_of, workflow_named}
 use Rattle.std.specs.declared.result.Result.TheVariants.{Ok, Err}
 use Rattle.arz_world.specs.declared.Request.{Request}
 use Rattle.arz_flow.specs.declared.answers.Spot.{Spot}
-use Rattle.arz_flow.specs.Outcomes.{Made}
+use Rattle.arz_request.specs.Causes.{Made}
 use Rattle.arz_flow.specs.Play.{Result, Completed, Broke, Budget, Seen, sends_in, Script, Stops, Plays, Sends}
 use Rattle.arz_flow.specs.Requests.{request_of}
-use Rattle.arz_flow.specs.Scopes.{Nothing, found}
+use Rattle.arz_scope.specs.Scopes.{Nothing, found}
 use Rattle.arz_flow.specs.Cases.{Run, Case, Runs, Enters, Goes_on, Closes, give, after_run, with_step, with_request, within_budget, spot, surroundings, fact_of, with_fact, after_reply, is_success, attempt, next_step, script}
 use Rattle.arz_flow.proofs.Bounded.{Bounded}
 
@@ -77,7 +77,7 @@ module _ (b : Bundle) (K : ℕ) (big : 8 ≤ K) where
   -- after a reply an answer fewer is left
   attempt_bd : (n a t : ℕ) (r : Run) (i : ℕ) (v : Seen) (step : Json) → a * K ≤ n → t ≤ K → Bd n (attempt b r i v step) a 1 t 2
   attempt_bd n a t r i v step le gap =
-      request_bd (request_of b (found (surroundings b r v.done) Nothing) step) (spot r step) n a 1 t 2 (λ q. within_budget b v (Sends q (after_reply b r i step q))) gap (λ q.
+      request_bd (request_of b (found (surroundings b r v.done) Nothing) (workflow_named r.workflow b.arazzo) step) (spot r step) n a 1 t 2 (λ q. within_budget b v (Sends q (after_reply b r i step q))) gap (λ q.
       budget_bd v n a 1 t 2 (Sends q (after_reply b r i step q)) gap
       (gap, λ y w a' lt. tail n a' 0 0 2 (Goes_on (with_fact r (fact_of b r w.done step q y)) i (is_success y)) (omega (arith, le, fewer a' a K lt, big)) (omega (arith, big)) (omega arith) (omega arith)))
 

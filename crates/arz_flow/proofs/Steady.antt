@@ -11,10 +11,10 @@ use Rattle.arz_flow.specs.declared.answers.Answer.TheVariants.{Reply as Replied,
 use Rattle.arz_flow.specs.declared.answers.End.{End}
 use Rattle.arz_flow.specs.declared.answers.Spot.{Spot}
 use Rattle.arz_flow.specs.declared.bundle.Bundle.{Bundle}
-use Rattle.arz_flow.specs.Documents.{steps_of}
-use Rattle.arz_flow.specs.Outcomes.{Made}
+use Rattle.arz_flow.specs.Documents.{steps_of, workflow_named}
+use Rattle.arz_request.specs.Causes.{Made}
 use Rattle.arz_flow.specs.Requests.{request_of}
-use Rattle.arz_flow.specs.Scopes.{Nothing, found}
+use Rattle.arz_scope.specs.Scopes.{Nothing, found}
 use Rattle.arz_flow.specs.Play.{Result, Completed, Broke, NoStep, Stuck, Budget, Seen, sends_in, State, seen, Play, Spent, Lost, Out, Ends, Gives, Script, Give, Stops, Sends, Waits, Plays, Records, then_play, take_reply, take_served, turn, follow, play}
 use Rattle.arz_flow.specs.Cases.{Run, Case, Runs, Enters, Goes_on, Closes, give, after_run, with_step, with_request, within_budget, spot, surroundings, after_reply, attempt, next_step, script}
 use Rattle.arz_flow.specs.Executions.{TookAll, whole, start, fuel, end, end_of, Fitting}
@@ -114,7 +114,7 @@ module _ (b : Bundle) where
   script_steady (Runs w inputs) v there = (there, λ o u. ends_steady w inputs o u)
   script_steady (Enters r i) v there =
       step_steady (slice_get (steps_of b r.workflow) i) there.0 (attempt b r i v) there.1 (λ step.
-      request_steady (request_of b (found (surroundings b r v.done) Nothing) step) (spot r step) (λ q. within_budget b v (Sends q (after_reply b r i step q))) (λ q.
+      request_steady (request_of b (found (surroundings b r v.done) Nothing) (workflow_named r.workflow b.arazzo) step) (spot r step) (λ q. within_budget b v (Sends q (after_reply b r i step q))) (λ q.
       budget_steady v (Sends q (after_reply b r i step q)) (λ y u. (tt, λ o w. tt))))
   script_steady (Goes_on r i true) v there = next_steady r (i + 1) (slice_get (steps_of b r.workflow) (i + 1)) refl
   script_steady (Goes_on r i false) v there = (tt, λ o u. tt)

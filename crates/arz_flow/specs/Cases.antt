@@ -9,13 +9,13 @@ use Rattle.arz_world.specs.declared.Reply.{Reply}
 use Rattle.arz_world.specs.declared.Request.{Request}
 use Rattle.arz_flow.specs.declared.answers.Spot.{Spot}
 use Rattle.arz_flow.specs.declared.bundle.Bundle.{Bundle}
-use Rattle.arz_flow.specs.declared.facts.Fact.{Fact}
+use Rattle.arz_scope.specs.declared.facts.Fact.{Fact}
 use Rattle.arz_flow.specs.Documents.{text_at, workflow_named, steps_of}
-use Rattle.arz_flow.specs.Outcomes.{Made}
-use Rattle.arz_flow.specs.Outputs.{outputs_of}
+use Rattle.arz_request.specs.Causes.{Made}
+use Rattle.arz_scope.specs.Outputs.{outputs_of}
 use Rattle.arz_flow.specs.Play.{Result, Completed, Broke, Completion, NoStep, Stuck, Budget, Seen, sends_in, Script, Give, Stops, Sends, Plays, Records}
 use Rattle.arz_flow.specs.Requests.{request_of}
-use Rattle.arz_flow.specs.Scopes.{Surroundings, Nothing, Exchange, found}
+use Rattle.arz_scope.specs.Scopes.{Surroundings, Nothing, Exchange, found}
 
 -- where a run stands: its workflow, its inputs, and the facts of its attempts so far
 pub record Run : Type 0 where
@@ -88,7 +88,7 @@ after_reply b r i step q y seen = Plays (Goes_on (with_fact r (fact_of b r seen.
 -- the attempt of an operation step: its request is made, and sent where one more may be, and one reply is taken
 abbrev pub attempt : Bundle → Run → (step : ℕ) → Seen → Json → Script Case
 attempt b r i seen step =
-    with_request (request_of b (found (surroundings b r seen.done) Nothing) step) (spot r step) (λ q.
+    with_request (request_of b (found (surroundings b r seen.done) Nothing) (workflow_named r.workflow b.arazzo) step) (spot r step) (λ q.
     within_budget b seen (Sends q (after_reply b r i step q)))
 
 -- the step after, or the end of the run after the last

@@ -6,7 +6,7 @@ use Rattle.arz_flow.specs.declared.answers.Ask.TheVariants.{Send, Wait}
 use Rattle.arz_flow.specs.declared.answers.Answer.{Answer}
 use Rattle.arz_flow.specs.declared.answers.Answer.TheVariants.{Reply as Replied, Served}
 use Rattle.arz_flow.specs.declared.answers.End.{End}
-use Rattle.arz_flow.specs.declared.answers.Cause.TheVariants.{FractionUsed}
+use Rattle.arz_request.specs.declared.cause.Cause.TheVariants.{FractionUsed}
 use Rattle.arz_flow.specs.declared.answers.End.TheVariants.{Completed as EndCompleted, Broke as EndBroke, Out as EndOut, Stuck as EndStuck, Budget as EndBudget}
 use Rattle.arz_json.specs.Tree.{has_opaque}
 use Rattle.arz_json.specs.declared.Json.TheVariants.{Object}

@@ -8,8 +8,8 @@ use Rattle.arz_flow.specs.declared.answers.Ask.{Ask}
 use Rattle.arz_flow.specs.declared.answers.Ask.TheVariants.{Send, Wait}
 use Rattle.arz_flow.specs.declared.answers.End.{End}
 use Rattle.arz_flow.specs.declared.answers.End.TheVariants.{Completed, Broke, Out, Stuck, Budget}
-use Rattle.arz_flow.specs.declared.answers.Cause.{Cause}
-use Rattle.arz_flow.specs.declared.answers.Cause.TheVariants as cause
+use Rattle.arz_request.specs.declared.cause.Cause.{Cause}
+use Rattle.arz_request.specs.declared.cause.Cause.TheVariants as cause
 use Rattle.arz_flow.specs.declared.answers.Spot.{Spot}
 
 -- the URL of a request: `http://HOST:PORT` and the target
@@ -26,7 +26,10 @@ cause_text cause.Unresolved = codes "Unresolved"
 cause_text cause.FractionUsed = codes "FractionUsed"
 cause_text cause.TooNested = codes "TooNested"
 cause_text cause.NotSerializable = codes "NotSerializable"
+cause_text cause.BadHeaderValue = codes "BadHeaderValue"
+cause_text cause.PayloadTarget = codes "PayloadTarget"
 cause_text cause.RequestTooLarge = codes "RequestTooLarge"
+cause_text cause.TooWide = codes "TooWide"
 
 abbrev pub step_text : Option (List ℕ) → List ℕ
 step_text None = []

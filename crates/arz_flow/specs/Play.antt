@@ -6,7 +6,8 @@ use Rattle.arz_world.specs.declared.Reply.{Reply}
 use Rattle.arz_flow.specs.declared.answers.Ask.{Ask}
 use Rattle.arz_flow.specs.declared.answers.Ask.TheVariants.{Send, Wait}
 use Rattle.arz_flow.specs.declared.answers.Answer.{Answer}
-use Rattle.arz_flow.specs.declared.answers.Cause.{Cause}
+use Rattle.arz_request.specs.declared.cause.Cause.{Cause}
+pub use Rattle.arz_scope.specs.Scopes.{Completion}
 use Rattle.arz_flow.specs.declared.answers.Spot.{Spot}
 use Rattle.arz_flow.specs.declared.answers.Answer.TheVariants.{Reply as Replied, Served}
 
@@ -20,12 +21,6 @@ pub data Halt : Type 0 where
   NoStep : Halt
   Stuck : Cause → Spot → Halt
   Budget : (limit : ℕ) → Halt
-
--- one completed run of a workflow
-pub record Completion : Type 0 where
-  pub workflow : List ℕ
-  pub inputs : List Member
-  pub outputs : List Member
 
 -- what a case may look at: the asks that were answered, and the completions. The answers to come aren't seen
 pub record Seen : Type 0 where

@@ -1,5 +1,6 @@
 // What an execution asks of the outside, what it is answered, and how it ends.
 use arz_json::{Members, Text};
+use arz_request::Cause;
 use arz_world::{Reply as ReplyMessage, Request};
 
 /// What is asked of the outside.
@@ -18,21 +19,6 @@ pub enum Answer {
     Reply(ReplyMessage),
     /// The seconds have passed.
     Served,
-}
-
-/// Why an execution can't go on.
-#[derive(Clone, Copy, Debug, PartialEq, Eq)]
-pub enum Cause {
-    /// An expression of a parameter has no value.
-    Unresolved,
-    /// A number with a fraction or an exponent, or past 64 bits, would have to be written.
-    FractionUsed,
-    /// A filled value would nest too deep.
-    TooNested,
-    /// A value can't be written in the style of its parameter.
-    NotSerializable,
-    /// A request would have too many bytes.
-    RequestTooLarge,
 }
 
 /// A place in a description: a workflow, or one of its steps.

@@ -1,12 +1,5 @@
 // What is executed.
-use arz_json::{Json, Many, Members, Named, Text};
-
-/// A text under a name.
-#[derive(Debug, Drop)]
-pub struct NamedText {
-    pub name: Text,
-    pub text: Text,
-}
+use arz_json::{Json, Many, Members, Named, NamedText, Text};
 
 /// All that an execution rests on: the documents, and what the setup says.
 #[derive(Debug, Drop)]

@@ -3,12 +3,14 @@
 
 mod answers;
 mod bundle;
-mod facts;
+mod endpoint;
 pub mod laws;
 mod lines;
 
-pub use answers::{Answer, Ask, Cause, End, Spot};
+pub use answers::{Answer, Ask, End, Spot};
 pub use arz_json::{items_at, members_at, text_at};
-pub use bundle::{Bundle, NamedText};
-pub use facts::Fact;
+pub use arz_request::Cause;
+pub use arz_scope::Fact;
+pub use bundle::Bundle;
+pub use endpoint::Endpoint;
 pub use lines::{ask_text, end_line, send_text};

@@ -3,8 +3,9 @@ ghost use Rattle.std.specs.Prelude.{◌≡◌, IfOk, string_bytes};
 ghost use Rattle.arz_flow.specs.declared.answers.Ask.{Ask};
 ghost use Rattle.arz_flow.specs.Lines.{ask_text as text_of_ask, cause_text as text_of_cause, spot_text as text_of_spot, line_of_end};
 
-use crate::answers::{Ask, Cause, End, Spot};
+use crate::answers::{Ask, End, Spot};
 use arz_json::{Bytes, Text};
+use arz_request::Cause;
 use arz_world::Request;
 use std::alloc::{AllocError, Global};
 
@@ -66,7 +67,10 @@ fn cause_text(cause: Cause) -> &'static str
         Cause::FractionUsed => "FractionUsed",
         Cause::TooNested => "TooNested",
         Cause::NotSerializable => "NotSerializable",
+        Cause::BadHeaderValue => "BadHeaderValue",
+        Cause::PayloadTarget => "PayloadTarget",
         Cause::RequestTooLarge => "RequestTooLarge",
+        Cause::TooWide => "TooWide",
     }
 }
 

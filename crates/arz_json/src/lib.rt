@@ -28,5 +28,5 @@ pub use placing::{PutFault, is_deeper, put, swap_child};
 pub use pointer::at;
 pub use reader::{JsonFault, read};
 pub use text::{Bytes, Text, split_once};
-pub use tree::{Json, Location, Member, Members, Named, Refusal, Style};
+pub use tree::{Json, Location, Member, Members, Named, NamedText, Refusal, Style};
 pub use writer::{CompactFault, compact, compact_string};

@@ -39,6 +39,13 @@ pub struct Named {
     pub root: Json,
 }
 
+/// A text under a name.
+#[derive(Debug, Drop)]
+pub struct NamedText {
+    pub name: Text,
+    pub text: Text,
+}
+
 /// Where a parameter of a request stands (OpenAPI 3.1, 4.8.12.1).
 #[derive(Clone, Copy, Debug, PartialEq, Eq)]
 pub enum Location {

@@ -5,7 +5,7 @@ use Rattle.arz_json.specs.Tree.{IsWithin}
 use Rattle.arz_json.specs.declared.Json.TheVariants.{Object}
 use Rattle.arz_json.specs.declared.Member.{Member}
 use Rattle.arz_json.proofs.Parts.{IsWithin-value}
-use Rattle.arz_flow.specs.Shallow.{AreShallow}
+use Rattle.arz_scope.specs.Shallow.{AreShallow}
 
 -- the members of a shallow object
 pub shallow_members : (ms : List Member) → IsWithin 127 (Object ms) → AreShallow ms

@@ -11,7 +11,7 @@ use Rattle.arz_flow.specs.declared.answers.Answer.TheVariants.{Reply as Replied,
 use Rattle.arz_flow.specs.declared.answers.End.{End}
 use Rattle.arz_flow.specs.declared.answers.End.TheVariants.{Out}
 use Rattle.arz_flow.specs.declared.bundle.Bundle.{Bundle}
-use Rattle.arz_flow.specs.declared.facts.Fact.{Fact}
+use Rattle.arz_scope.specs.declared.facts.Fact.{Fact}
 use Rattle.arz_flow.specs.Cases.{is_success}
 use Rattle.arz_flow.specs.Documents.{steps_of}
 use Rattle.arz_flow.specs.Executions.{end, Fitting}

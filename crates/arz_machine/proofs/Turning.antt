@@ -15,11 +15,11 @@ use Rattle.arz_flow.specs.declared.answers.End.{End}
 use Rattle.arz_flow.specs.declared.answers.End.TheVariants.{Completed as EndCompleted, Broke as EndBroke, Out as EndOut, Stuck as EndStuck, Budget as EndBudget}
 use Rattle.arz_flow.specs.declared.answers.Spot.{Spot}
 use Rattle.arz_flow.specs.declared.bundle.Bundle.{Bundle}
-use Rattle.arz_flow.specs.declared.facts.Fact.{Fact}
-use Rattle.arz_flow.specs.Documents.{steps_of}
-use Rattle.arz_flow.specs.Outcomes.{Made}
+use Rattle.arz_scope.specs.declared.facts.Fact.{Fact}
+use Rattle.arz_flow.specs.Documents.{steps_of, workflow_named}
+use Rattle.arz_request.specs.Causes.{Made}
 use Rattle.arz_flow.specs.Requests.{request_of}
-use Rattle.arz_flow.specs.Scopes.{Nothing, found}
+use Rattle.arz_scope.specs.Scopes.{Nothing, found}
 use Rattle.arz_flow.specs.Play.{Result, Completed, Broke, Completion, Halt, Stuck, Budget, sends_in, Ends, Script, Give, Stops, Plays, Sends as SendsNext}
 use Rattle.arz_flow.specs.Cases.{Case, Runs, Enters, Goes_on, Closes, give, after_run, begun, surroundings, with_step, with_request, within_budget, spot, fact_of, with_fact, is_success, after_reply, attempt, next_step, result, outputs_at_end, script}
 use Rattle.arz_flow.specs.Executions.{end_of, end_of_result, TookAll, end, Fitting}
@@ -100,7 +100,7 @@ unfolding script
 enters b facts i step q p r there none fresh sent counted st =
     let run = run_of b facts in
     let at_step = subst (λ o. Stands b (with_step o (attempt b run i (seen_of q))) (open_runs b) p r) there st in
-    let by_done = subst (λ d. Stands b (with_request (request_of b (found (surroundings b run d) Nothing) step) (spot run step) (λ x. within_budget b (seen_of q) (SendsNext x (after_reply b run i step x)))) (open_runs b) p r) none at_step in
+    let by_done = subst (λ d. Stands b (with_request (request_of b (found (surroundings b run d) Nothing) (workflow_named run.workflow b.arazzo) step) (spot run step) (λ x. within_budget b (seen_of q) (SendsNext x (after_reply b run i step x)))) (open_runs b) p r) none at_step in
     rested b facts i step (request_in b facts step) (spot run step) q p r there fresh sent counted by_done
 
 -- the first step is entered before the first answer

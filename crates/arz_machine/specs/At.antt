@@ -5,7 +5,7 @@ use Rattle.arz_flow.specs.declared.answers.Answer.{Answer}
 use Rattle.arz_flow.specs.declared.answers.End.{End}
 use Rattle.arz_flow.specs.declared.answers.End.TheVariants.{Out}
 use Rattle.arz_flow.specs.declared.bundle.Bundle.{Bundle}
-use Rattle.arz_flow.specs.declared.facts.Fact.{Fact}
+use Rattle.arz_scope.specs.declared.facts.Fact.{Fact}
 use Rattle.arz_flow.specs.Documents.{steps_of}
 use Rattle.arz_machine.specs.declared.machine.Machine.{Machine}
 use Rattle.arz_machine.specs.declared.machine.Next.{Next}

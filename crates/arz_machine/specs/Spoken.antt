@@ -3,7 +3,7 @@ use Rattle.std.specs.Prelude.{List, Option}
 use Rattle.arz_world.specs.declared.Reply.{Reply}
 use Rattle.arz_world.specs.declared.Request.{Request}
 use Rattle.arz_flow.specs.declared.bundle.Bundle.{Bundle}
-use Rattle.arz_flow.specs.declared.facts.Fact.{Fact}
+use Rattle.arz_scope.specs.declared.facts.Fact.{Fact}
 use Rattle.arz_scope.specs.Speaking.{Speaking}
 
 -- the description, the inputs and the facts so far of the starting workflow's run, and an attempt's exchange (Arazzo 1.0.1, 4.7)

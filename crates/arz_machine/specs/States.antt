@@ -9,12 +9,13 @@ use Rattle.arz_world.specs.declared.Request.{Request}
 use Rattle.arz_flow.specs.declared.answers.End.TheVariants.{Stuck, Budget}
 use Rattle.arz_flow.specs.declared.answers.Spot.{Spot}
 use Rattle.arz_flow.specs.declared.bundle.Bundle.{Bundle}
-use Rattle.arz_flow.specs.declared.facts.Fact.{Fact}
+use Rattle.arz_scope.specs.declared.facts.Fact.{Fact}
 use Rattle.arz_flow.specs.Cases.{Run, surroundings, spot, fact_of, result, outputs_at_end}
 use Rattle.arz_flow.specs.Executions.{end_of_result}
-use Rattle.arz_flow.specs.Outcomes.{Made}
+use Rattle.arz_flow.specs.Documents.{workflow_named}
+use Rattle.arz_request.specs.Causes.{Made}
 use Rattle.arz_flow.specs.Requests.{request_of}
-use Rattle.arz_flow.specs.Scopes.{Nothing, found}
+use Rattle.arz_scope.specs.Scopes.{Nothing, found}
 use Rattle.arz_flow.specs.declared.answers.End.{End}
 
 -- where an execution rests: a request is to be sent, or it has ended
@@ -47,7 +48,7 @@ rest_by b facts (Err cause) at = Ended (Stuck cause at)
 
 -- the request of a step that is entered after these facts
 abbrev pub request_in : Bundle → List Fact → Json → Made Request
-request_in b facts step = request_of b (found (surroundings b (run_of b facts) []) Nothing) step
+request_in b facts step = request_of b (found (surroundings b (run_of b facts) []) Nothing) (workflow_named b.workflow b.arazzo) step
 
 abbrev pub entered : Bundle → List Fact → Json → Rest
 entered b facts step = rest_by b facts (request_in b facts step) (spot (run_of b facts) step)

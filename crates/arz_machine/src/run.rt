@@ -1,7 +1,7 @@
 // A run of the starting workflow.
 ghost use Rattle.std.specs.Prelude.{◌≡◌};
 ghost use Rattle.arz_flow.specs.Documents.{steps_of};
-ghost use Rattle.arz_flow.specs.Shallow.{HaveShallow};
+ghost use Rattle.arz_scope.specs.Shallow.{HaveShallow};
 ghost use Rattle.arz_flow.specs.Valid.{IsValid};
 
 use arz_first_request::Operations;

@@ -1,5 +1,5 @@
 // Where an execution rests.
-ghost use Rattle.arz_flow.specs.Shallow.{SendsShallow};
+ghost use Rattle.arz_scope.specs.Shallow.{SendsShallow};
 
 use arz_flow::End;
 use arz_world::Request;

@@ -4,7 +4,7 @@ ghost use Rattle.std.specs.Option.{option_copied};
 ghost use Rattle.arz_json.specs.declared.Json.{Json};
 ghost use Rattle.arz_json.specs.Tree.{IsWellFormed};
 ghost use Rattle.arz_flow.specs.Cases.{spot as spot_of, outputs_at_end};
-ghost use Rattle.arz_flow.specs.Shallow.{AreShallow};
+ghost use Rattle.arz_scope.specs.Shallow.{AreShallow};
 ghost use Rattle.arz_flow.specs.Valid.{IsValid};
 ghost use Rattle.arz_machine.specs.Plain.{is_plain};
 ghost use Rattle.arz_machine.specs.Resting.{rest_of};

@@ -4,3 +4,5 @@ pub mod Sites
 pub mod Names
 pub mod Spots
 pub mod Indexes
+pub mod Called
+pub mod Targets

@@ -12,9 +12,9 @@ use arz_operation::Described;
 use arz_rules::TextSet;
 use std::alloc::{AllocError, Global};
 
-/// Names of parameters, by their places.
+/// Names of parameters, by their places (OpenAPI 3.1.0, section 4.8.12.1).
 #[derive(Drop)]
-pub(crate) struct Names<'a> {
+pub struct Names<'a> {
     path: TextSet<'a>,
     query: TextSet<'a>,
     header: TextSet<'a>,
@@ -22,7 +22,8 @@ pub(crate) struct Names<'a> {
 }
 
 impl<'a> Names<'a> {
-    fn new(alloc: Global) -> Names<'a>
+    /// No name. It takes no memory.
+    pub fn new(alloc: Global) -> Names<'a>
         ensures { (place : Location) (q : List ℕ) → taken_in result place q ≡ false }
     {
         Names {
@@ -33,8 +34,8 @@ impl<'a> Names<'a> {
         }
     }
 
-    // Whether the name was there.
-    fn put(&mut self, place: Location, name: &'a str) -> Result<bool, AllocError>
+    /// Puts a name into a place, and says whether it was there. Where memory runs out, it may be there or not.
+    pub fn put(&mut self, place: Location, name: &'a str) -> Result<bool, AllocError>
         ensures was { IfOk result (λ was. was ≡ taken_in self.old place name.now) }
         ensures path { OnOk result ((q : List ℕ) → has self.new.path q ≡ (is_same place Path && bytes_eq name.now q) || has self.old.path q) }
         ensures query { OnOk result ((q : List ℕ) → has self.new.query q ≡ (is_same place Query && bytes_eq name.now q) || has self.old.query q) }
@@ -46,6 +47,18 @@ impl<'a> Names<'a> {
             Location::Query => self.query.put(name),
             Location::Header => self.header.put(name),
             Location::Cookie => self.cookie.put(name),
+        }
+    }
+
+    /// Whether the name is in the place.
+    pub fn has(&self, place: Location, name: &str) -> bool
+        ensures { result ≡ taken_in self.now place name.now }
+    {
+        match place {
+            Location::Path => self.path.has(name),
+            Location::Query => self.query.has(name),
+            Location::Header => self.header.has(name),
+            Location::Cookie => self.cookie.has(name),
         }
     }
 }

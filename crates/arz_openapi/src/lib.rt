@@ -23,4 +23,5 @@ mod tokens;
 
 pub use document::check;
 pub use finding::{find_id, find_path};
+pub use joined::Names;
 pub use operations::Operations;

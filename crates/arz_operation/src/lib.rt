@@ -12,4 +12,4 @@ mod types;
 pub use parameters::read_parameter;
 pub use references::{Lost, follow, is_reference};
 pub use servers::fill;
-pub use types::{Described, Operation};
+pub use types::{Call, Described, Operation};

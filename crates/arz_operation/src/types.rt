@@ -27,3 +27,14 @@ pub struct Operation {
     /// The URL of the server that applies, with the defaults of its variables, where there is a server.
     pub server: Option<Text>,
 }
+
+/// What a step calls (Arazzo 1.0.1, section 4.6.5).
+#[derive(Debug, Drop)]
+pub enum Call {
+    /// The operation with this operationId: in the source with this name where one is written, else in any.
+    Id(Option<Text>, Text),
+    /// The operation at a place of the source with this name: a JSON Pointer (RFC 6901), as it is written.
+    At(Text, Text),
+    /// The workflow with this workflowId.
+    Flow(Text),
+}

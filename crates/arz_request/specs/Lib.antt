@@ -5,4 +5,3 @@ pub mod Named
 pub mod Parameters
 pub mod Payloads
 pub mod Requests
-pub mod Shallow

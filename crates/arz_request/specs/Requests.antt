@@ -11,7 +11,7 @@ use Rattle.arz_expr.specs.declared.syntax.Base.{Base}
 use Rattle.arz_expr.specs.declared.template.Body.{Body}
 use Rattle.arz_expr.specs.declared.template.Given.{Given}
 use Rattle.arz_operation.specs.declared.types.Operation.{Operation}
-use Rattle.arz_style.specs.Joined.{joined}
+use Rattle.arz_json.specs.Texts.{joined}
 use Rattle.arz_target.specs.Templates.{expanded}
 use Rattle.arz_world.specs.Requests.{authority, request_bytes}
 use Rattle.arz_world.specs.declared.Header.{Header}

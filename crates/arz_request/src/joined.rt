@@ -1,7 +1,7 @@
 // The texts of parameters in one place.
 ghost use Rattle.std.specs.Prelude.{◌≡◌, ◌++◌, ◌&&◌, map, IfOk, OnOk, string_bytes};
 ghost use Rattle.std.specs.List.{flat_map};
-ghost use Rattle.arz_style.specs.Joined.{joined as joined_by};
+ghost use Rattle.arz_json.specs.Texts.{joined as joined_by};
 ghost use Rattle.arz_request.specs.Parameters.{is_at as stands_at, is_filled, texts_at as texts_of};
 
 use crate::parameters::Written;

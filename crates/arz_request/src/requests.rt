@@ -6,7 +6,7 @@ ghost use Rattle.arz_json.specs.Shallow.{IsShallow};
 ghost use Rattle.arz_request.specs.Causes.{told};
 ghost use Rattle.arz_request.specs.Parameters.{all_written};
 ghost use Rattle.arz_request.specs.Requests.{target_of, method_of, request_with, optional_content as content_meant, within_limit, request as request_for};
-ghost use Rattle.arz_request.specs.Shallow.{SendsShallow};
+ghost use Rattle.arz_world.specs.Shallow.{SendsShallow};
 
 use crate::body::{Content, content_for};
 use crate::cause::{BuildFault, Cause};

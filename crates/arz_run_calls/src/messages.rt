@@ -1,6 +1,6 @@
 // What the expressions of a run speak of, and the outputs that they give.
 ghost use Rattle.std.specs.Prelude.{IfOk, All};
-ghost use Rattle.arz_flow.specs.Shallow.{AreShallow, HaveShallow, IsShallow, SendsShallow};
+ghost use Rattle.arz_scope.specs.Shallow.{AreShallow, HaveShallow, IsShallow, SendsShallow};
 
 use arz_cases::{Case, CaseFault, Outcome, brief, flag_word, text_of};
 use arz_expr::{Expr, value};

@@ -19,9 +19,9 @@ use Rattle.std.proofs.lemmas.Str.{IsUtf8-from_is_utf8}
 use Rattle.arz_json.proofs.Forms.{IsWithin-Reads}
 use Rattle.arz_json.proofs.Parts.{IsWithin-item, IsWithin-value, IsWithin-list_in, IsWithin-object_in, IsWithin-member_in}
 use Rattle.arz_world.specs.declared.Reply.{Reply}
-use Rattle.arz_flow.specs.Bodies.{Kind, AsJson, AsText, Unread, read_as, kind_of, is_empty, body_value}
-use Rattle.arz_flow.specs.Documents.{items_at}
-use Rattle.arz_flow.specs.Shallow.{IsShallow, AreShallow}
+use Rattle.arz_scope.specs.Bodies.{Kind, AsJson, AsText, Unread, read_as, kind_of, is_empty, body_value}
+use Rattle.arz_json.specs.Look.{items_at}
+use Rattle.arz_scope.specs.Shallow.{IsShallow, AreShallow}
 
 -- the items of a shallow list
 items-in : (j : Json) (js : List Json) → list_in j ≡ Some js → IsShallow j → All IsShallow js

@@ -14,7 +14,7 @@ use Rattle.std.proofs.lemmas.Map.Text.{is_eq-slice_cmp}
 use Rattle.std.proofs.lemmas.Slice.Eq.{bytes_eq-Decides}
 use Rattle.arz_world.specs.declared.Header.{Header}
 use Rattle.arz_world.specs.declared.Reply.{Reply}
-use Rattle.arz_flow.specs.Bodies.{field_of, has_name, header_field}
+use Rattle.arz_scope.specs.Bodies.{field_of, has_name, header_field}
 use Rattle.arz_scope.specs.Fields.{field_named, Group, field_from}
 use Rattle.arz_scope.specs.declared.fields.Field.{Field}
 

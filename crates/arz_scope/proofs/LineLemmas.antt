@@ -5,7 +5,7 @@ use Rattle.std.specs.List.{list_all}
 use Rattle.std.specs.Str.{str_eq_ignore_ascii_case}
 use Rattle.arz_world.specs.declared.Header.{Header}
 use Rattle.arz_world.specs.declared.Reply.{Reply}
-use Rattle.arz_flow.specs.Bodies.{Kind, AsJson, Unread, has_name, values_of, is_plain, kind_by, kind_of_type, kind_of, media_type}
+use Rattle.arz_scope.specs.Bodies.{Kind, AsJson, Unread, has_name, values_of, is_plain, kind_by, kind_of_type, kind_of, media_type}
 use Rattle.arz_scope.specs.Kinds.{is_plain_line}
 
 abbrev coding : List ℕ

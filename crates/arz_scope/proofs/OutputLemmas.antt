@@ -18,9 +18,9 @@ use Rattle.arz_expr.specs.Values.{value_in}
 use Rattle.arz_expr.specs.declared.syntax.Base.{Base}
 use Rattle.arz_expr.specs.declared.syntax.Expr.{Expr}
 use Rattle.arz_expr.proofs.Endings.{reading-sound, reading-complete}
-use Rattle.arz_flow.specs.Documents.{members_at}
-use Rattle.arz_flow.specs.Outputs.{output_value, with_output, outputs_in, outputs_of}
-use Rattle.arz_flow.specs.Shallow.{AreShallow}
+use Rattle.arz_json.specs.Look.{members_at}
+use Rattle.arz_scope.specs.Outputs.{output_value, with_output, outputs_in, outputs_of}
+use Rattle.arz_scope.specs.Shallow.{AreShallow}
 use Rattle.arz_scope.proofs.Depths.{members-in}
 
 -- ---- the value of one

@@ -9,7 +9,7 @@ use Rattle.serde_json.specs.Read.{read}
 use Rattle.arz_json.specs.Reading.{Reads}
 use Rattle.arz_json.specs.declared.Json.{Json}
 use Rattle.arz_json.specs.declared.Json.TheVariants.{Text}
-use Rattle.arz_flow.specs.Bodies.{text_of, json_of}
+use Rattle.arz_scope.specs.Bodies.{text_of, json_of}
 
 pub text_of-utf8 : (bytes : List ℕ) → IsUtf8 bytes → Some (Text bytes) ≡ text_of bytes
 text_of-utf8 bytes u = rw (is_utf8-from_IsUtf8 bytes u) refl

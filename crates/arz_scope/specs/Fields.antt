@@ -6,7 +6,7 @@ use Rattle.std.specs.declared.alloc.Global.{Global}
 use Rattle.std.specs.declared.string.String.{String}
 use Rattle.std.specs.declared.vec.Vec.{Vec}
 use Rattle.arz_json.specs.declared.Json.{Json}
-use Rattle.arz_flow.specs.Bodies.{field_of}
+use Rattle.arz_scope.specs.Bodies.{field_of}
 use Rattle.arz_scope.specs.declared.fields.Field.{Field}
 
 -- the value of the field with this name, in any ASCII case; the fields' names are in lower case

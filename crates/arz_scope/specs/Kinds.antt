@@ -2,7 +2,7 @@
 use Rattle.std.specs.Prelude.{◌||◌, not, Bool, codes}
 use Rattle.std.specs.Str.{str_eq_ignore_ascii_case}
 use Rattle.arz_world.specs.declared.Header.{Header}
-use Rattle.arz_flow.specs.Bodies.{Kind, AsJson, AsText, Unread, has_name}
+use Rattle.arz_scope.specs.Bodies.{Kind, AsJson, AsText, Unread, has_name}
 use Rattle.arz_scope.specs.declared.bodies.BodyKind.{BodyKind}
 use Rattle.arz_scope.specs.declared.bodies.BodyKind.TheVariants as body
 

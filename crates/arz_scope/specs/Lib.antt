@@ -1,5 +1,9 @@
+pub mod Bodies
 pub mod Fields
 pub mod Kinds
+pub mod Outputs
 pub mod Prepared
+pub mod Scopes
+pub mod Shallow
 pub mod Sources
 pub mod Speaking

@@ -4,9 +4,9 @@ use Rattle.arz_json.specs.declared.Json.{Json}
 use Rattle.arz_json.specs.declared.Json.TheVariants.{Int, Text}
 use Rattle.arz_world.specs.declared.Reply.{Reply}
 use Rattle.arz_world.specs.declared.Request.{Request}
-use Rattle.arz_flow.specs.Bodies.{header_field, body_value}
-use Rattle.arz_flow.specs.Requests.{authority}
-use Rattle.arz_flow.specs.Shallow.{IsShallow, SendsShallow}
+use Rattle.arz_scope.specs.Bodies.{header_field, body_value}
+use Rattle.arz_world.specs.Requests.{authority}
+use Rattle.arz_scope.specs.Shallow.{IsShallow, SendsShallow}
 use Rattle.arz_scope.specs.Fields.{field_named}
 use Rattle.arz_scope.specs.declared.fields.Field.{Field}
 

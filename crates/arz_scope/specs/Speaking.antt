@@ -9,9 +9,9 @@ use Rattle.arz_world.specs.contracts.messages.Reply as reply
 use Rattle.arz_world.specs.contracts.messages.Request as request
 use Rattle.arz_world.specs.declared.Reply.{Reply}
 use Rattle.arz_world.specs.declared.Request.{Request}
-use Rattle.arz_flow.specs.contracts.facts.Fact as fact
-use Rattle.arz_flow.specs.declared.facts.Fact.{Fact}
-use Rattle.arz_flow.specs.Scopes.{Surroundings, Attempt, Nothing, Exchange}
+use Rattle.arz_scope.specs.contracts.facts.Fact as fact
+use Rattle.arz_scope.specs.declared.facts.Fact.{Fact}
+use Rattle.arz_scope.specs.Scopes.{Surroundings, Attempt, Nothing, Exchange}
 
 -- the description, the inputs and the facts of a run; and a request with its reply, where an attempt is spoken of
 pub record Speaking : Type 0 where

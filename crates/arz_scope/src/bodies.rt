@@ -2,7 +2,7 @@
 ghost use Rattle.std.specs.Prelude.{◌≡◌, ◌==◌, IfOk, find, reverse};
 ghost use Rattle.std.specs.List.{before_first, list_all};
 ghost use Rattle.std.specs.Option.{option_copied};
-ghost use Rattle.arz_flow.specs.Bodies.{body_value, json_of as json_in, kind_of as kind_by_lines, kind_of_type as kind_of_media_type, has_name, media_type as media_type_in, trimmed as trimmed_text, skip_blanks as without_blanks, is_blank as is_blank_byte};
+ghost use Rattle.arz_scope.specs.Bodies.{body_value, json_of as json_in, kind_of as kind_by_lines, kind_of_type as kind_of_media_type, has_name, media_type as media_type_in, trimmed as trimmed_text, skip_blanks as without_blanks, is_blank as is_blank_byte};
 ghost use Rattle.arz_scope.specs.Kinds.{kind_seen, is_plain_line as is_plain_by_line};
 
 use crate::fields::text_of;

@@ -2,9 +2,9 @@
 ghost use Rattle.std.specs.Prelude.{◌≡◌, ◌++◌, IfOk, OnOk, IfSome, All, find, pos, string_bytes};
 ghost use Rattle.std.specs.Option.{option_copied};
 ghost use Rattle.arz_json.specs.declared.Json.{Json};
-ghost use Rattle.arz_flow.specs.Requests.{authority};
-ghost use Rattle.arz_flow.specs.Shallow.{IsShallow, SendsShallow};
-ghost use Rattle.arz_flow.specs.Scopes.{exchanged, is_header, is_parameter};
+ghost use Rattle.arz_world.specs.Requests.{authority};
+ghost use Rattle.arz_scope.specs.Shallow.{IsShallow, SendsShallow};
+ghost use Rattle.arz_scope.specs.Scopes.{exchanged, is_header, is_parameter};
 ghost use Rattle.arz_scope.specs.Prepared.{url_of};
 
 use crate::bodies::body_of;

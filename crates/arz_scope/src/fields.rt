@@ -3,8 +3,8 @@ ghost use Rattle.std.specs.Prelude.{◌≡◌, ℕ, List, [], ◌∷◌, IfOk, m
 ghost use Rattle.std.specs.Option.{option_copied, option_map_or};
 ghost use Rattle.std.specs.Str.{bytes_eq, str_to_ascii_lowercase};
 ghost use Rattle.std.specs.BTreeMap as tree;
-ghost use Rattle.arz_flow.specs.Bodies.{field_of, header_field, text_of as text_in};
-ghost use Rattle.arz_flow.specs.Texts.{joined as joined_by};
+ghost use Rattle.arz_scope.specs.Bodies.{field_of, header_field, text_of as text_in};
+ghost use Rattle.arz_json.specs.Texts.{joined as joined_by};
 ghost use Rattle.arz_scope.specs.Fields.{field_named, field_from};
 
 use arz_json::{Bytes, Json, Many, Text};

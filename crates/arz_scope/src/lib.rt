@@ -4,11 +4,13 @@
 
 mod bodies;
 mod exchange;
+mod facts;
 mod fields;
 mod lookups;
 mod output_values;
 mod run_scope;
 
 pub use exchange::Exchange;
+pub use facts::Fact;
 pub use output_values::{any_opaque, outputs};
 pub use run_scope::RunScope;

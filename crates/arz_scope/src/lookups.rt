@@ -4,13 +4,13 @@ ghost use Rattle.std.specs.Option.{option_copied};
 ghost use Rattle.arz_json.specs.Look.{member_in};
 ghost use Rattle.arz_json.specs.Pointer.{member_named};
 ghost use Rattle.std.specs.Str.{bytes_eq};
-ghost use Rattle.arz_flow.specs.Documents.{text_at as text_under};
-ghost use Rattle.arz_flow.specs.Scopes.{last_fact as last_fact_of, source_named as source_with, or_openapi};
-ghost use Rattle.arz_flow.specs.Shallow.{IsShallow, AreShallow, HaveShallow};
+ghost use Rattle.arz_json.specs.Look.{text_at as text_under};
+ghost use Rattle.arz_scope.specs.Scopes.{last_fact as last_fact_of, source_named as source_with, or_openapi};
+ghost use Rattle.arz_scope.specs.Shallow.{IsShallow, AreShallow, HaveShallow};
 ghost use Rattle.arz_scope.specs.Sources.{openapi as openapi_type};
 
-use arz_flow::{Fact, items_at, text_at};
-use arz_json::{Json, Member, value_named};
+use crate::facts::Fact;
+use arz_json::{Json, Member, items_at, text_at, value_named};
 
 /// The value of the member with this name.
 pub fn member_value<'a>(members: &'a [Member], name: &str) -> Option<&'a Json>

@@ -2,12 +2,11 @@
 ghost use Rattle.std.specs.Prelude.{◌≡◌, IfOk, IfSome};
 ghost use Rattle.arz_json.specs.declared.Json.{Json};
 ghost use Rattle.arz_json.specs.Tree.{IsWellFormed, has_opaque};
-ghost use Rattle.arz_flow.specs.Outputs.{outputs_of, output_value as value_of};
-ghost use Rattle.arz_flow.specs.Shallow.{IsShallow, AreShallow};
+ghost use Rattle.arz_scope.specs.Outputs.{outputs_of, output_value as value_of};
+ghost use Rattle.arz_scope.specs.Shallow.{IsShallow, AreShallow};
 
 use arz_expr::{Expr, Scope, value};
-use arz_flow::members_at;
-use arz_json::{Json, Member, Members, copy, holds_opaque};
+use arz_json::{Json, Member, Members, copy, holds_opaque, members_at};
 use std::alloc::{AllocError, Global};
 
 /// The outputs that a step or a workflow lists (Arazzo 1.0.1, 4.6.4.1 and 4.6.5.1), in the order in

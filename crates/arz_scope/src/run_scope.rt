@@ -1,12 +1,12 @@
 // What the expressions of a run speak of.
 ghost use Rattle.std.specs.Prelude.{◌≡◌, IfOk};
 ghost use Rattle.std.specs.Option.{option_copied};
-ghost use Rattle.arz_flow.specs.Shallow.{IsShallow, AreShallow, HaveShallow};
+ghost use Rattle.arz_scope.specs.Shallow.{IsShallow, AreShallow, HaveShallow};
 
 use crate::exchange::Exchange;
+use crate::facts::Fact;
 use crate::lookups::{member_value, source_kind, source_member, step_output};
 use arz_expr::{Base, Scope};
-use arz_flow::Fact;
 use arz_json::{Json, Member, Text};
 use std::alloc::{AllocError, Global};
 use std::marker::Model;
@@ -26,7 +26,7 @@ pub struct RunScope<'a> {
 impl<'a> Model for RunScope<'a> {
     ghost use Rattle.std.specs.Prelude.{◌≡◌};
     ghost use Rattle.std.specs.Option.{option_copied};
-    ghost use Rattle.arz_flow.specs.Shallow.{IsShallow, AreShallow, HaveShallow};
+    ghost use Rattle.arz_scope.specs.Shallow.{IsShallow, AreShallow, HaveShallow};
     ghost use Rattle.arz_scope.specs.Sources.{openapi as openapi_type};
     ghost use Rattle.arz_scope.specs.Speaking.{Speaking, speaking_code};
 
@@ -71,12 +71,12 @@ impl<'a> RunScope<'a> {
 }
 
 impl<'a> Scope for RunScope<'a> {
-    ghost use Rattle.arz_flow.specs.Scopes.{found};
+    ghost use Rattle.arz_scope.specs.Scopes.{found};
     ghost use Rattle.arz_scope.specs.Speaking.{run_of, attempt_of};
 
     ghost found = { λ s b. found (run_of s) (attempt_of s.exchange) b };
 
-    #[tactic(auto, unfolding(arz_flow::specs::Scopes::found))]
+    #[tactic(auto, unfolding(crate::specs::Scopes::found))]
     fn find(&self, base: &Base) -> Option<&Json> {
         match base {
             Base::Input(name) => member_value(self.inputs, name.as_str()),

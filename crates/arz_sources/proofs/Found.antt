@@ -16,10 +16,10 @@ use Rattle.arz_sources.specs.declared.sources.Source.{Source}
 use Rattle.arz_operation.specs.Named.{Standing, operation_of}
 use Rattle.arz_operation.specs.declared.types.Operation.{Operation}
 use Rattle.arz_openapi.specs.Parts.{operation_rule, found}
-use Rattle.arz_description.specs.declared.parts.Call.{Call}
-use Rattle.arz_description.specs.declared.parts.Call.TheVariants.{Id, At, Flow}
-use Rattle.arz_sources.specs.Called.{Called, Lookup, called_at, with_id, at_pointer, in_source, in_named, source_named, candidates, unless_fails, accepted, only}
-use Rattle.arz_sources.specs.Targets.{Target, target_of, seen_at, unless_flow, targets}
+use Rattle.arz_operation.specs.declared.types.Call.{Call}
+use Rattle.arz_operation.specs.declared.types.Call.TheVariants.{Id, At, Flow}
+use Rattle.arz_openapi.specs.Called.{Called, Lookup, called_at, with_id, at_pointer, in_source, in_named, source_named, candidates, unless_fails, accepted, only}
+use Rattle.arz_openapi.specs.Targets.{Target, target_of, seen_at, unless_flow, targets}
 use Rattle.arz_sources.specs.Served.{Served, served, seen_source, source_in_map, one_of, outcome_by, outcome_at, shown, asked, asked_named, named_in, outcomes, only_of, found_by, found_in}
 use Rattle.arz_sources.specs.declared.sources.Sources.{Sources}
 

@@ -21,10 +21,10 @@ use Rattle.arz_operation.specs.declared.references.Lost.TheVariants.{NotText, Un
 use Rattle.arz_openapi.specs.Parts.{lost_rule, lesser_rule, kind_rule, part_rule, items_rule, list_rule, parameters_by, parameters_rule, body_by, body_rule, operation_rule}
 use Rattle.arz_components.specs.Described.{Components}
 use Rattle.arz_description.specs.Calls.{call_of}
-use Rattle.arz_description.specs.declared.parts.Call.{Call}
-use Rattle.arz_description.specs.declared.parts.Call.TheVariants.{Id, At, Flow}
-use Rattle.arz_sources.specs.Called.{Lookup, with_id, at_pointer}
-use Rattle.arz_sources.specs.Targets.{Target, Targets, unless_flow}
+use Rattle.arz_operation.specs.declared.types.Call.{Call}
+use Rattle.arz_operation.specs.declared.types.Call.TheVariants.{Id, At, Flow}
+use Rattle.arz_openapi.specs.Called.{Lookup, with_id, at_pointer}
+use Rattle.arz_openapi.specs.Targets.{Target, Targets, unless_flow}
 use Rattle.arz_sources.specs.Rules.{naming_member, is_served, is_filled, gives, is_rule, rule_in, passes, in_workflows, rules_by}
 use Rattle.arz_sources.specs.Served.{Served, outcome_at, outcome_by, asked, outcomes, only_of, found_in, source_in_map, seen_source}
 use Rattle.arz_sources.specs.Failures.{fails, first_of, numbers, rule_by, place_at}

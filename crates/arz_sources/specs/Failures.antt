@@ -8,7 +8,7 @@ use Rattle.arz_rules.specs.Sites.{Check}
 use Rattle.arz_rules.specs.Phases.{Failure, first_failure}
 use Rattle.arz_components.specs.Described.{Components}
 use Rattle.arz_sources.specs.declared.failures.Failure as failures
-use Rattle.arz_sources.specs.Targets.{Target, Targets}
+use Rattle.arz_openapi.specs.Targets.{Target, Targets}
 use Rattle.arz_sources.specs.Rules.{lost_call, unserved, unfilled, naming_member, is_served, is_filled}
 
 abbrev pub seen_failure : failures.Failure → Failure

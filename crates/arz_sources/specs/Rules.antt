@@ -4,8 +4,8 @@ use Rattle.std.specs.Option.{is_some}
 use Rattle.std.specs.List.{list_all, list_any}
 use Rattle.std.specs.Str.{bytes_eq}
 use Rattle.arz_json.specs.declared.tree.Json.{Json}
-use Rattle.arz_json.specs.declared.tree.Member.{Member}
 use Rattle.arz_json.specs.declared.tree.Named.{Named}
+use Rattle.arz_json.specs.declared.tree.NamedText.{NamedText}
 use Rattle.arz_json.specs.declared.tree.Location.TheVariants.{Path}
 use Rattle.arz_json.specs.declared.place.Token.TheVariants.{Name}
 use Rattle.arz_json.specs.Look.{items_at}
@@ -20,7 +20,7 @@ use Rattle.arz_description.specs.Calls.{call_of}
 use Rattle.arz_description.specs.Requests.{given_of}
 use Rattle.arz_target.specs.Templates.{names}
 use Rattle.arz_target.specs.Urls.{address_of}
-use Rattle.arz_sources.specs.Targets.{Target, Targets, targets}
+use Rattle.arz_openapi.specs.Targets.{Target, Targets, targets}
 
 -- ---- the operation that a step calls isn't there, stands in several sources, or fails a rule itself
 
@@ -42,7 +42,7 @@ lost_call rule find step = if is_rule rule (rule_in (find (call_of step))) then 
 -- ---- no server of the operation can be reached: the URL that the setup gives has rules of its own
 
 abbrev pub is_served : Target → Bool
-is_served target = is_some target.given || is_some (option_and_then address_of target.written)
+is_served target = is_some target.given || is_some (option_and_then address_of target.operation.server)
 
 abbrev pub passes : (Target → Bool) → Result (Option Target) ℕ → Bool
 passes test (Ok (Some target)) = test target
@@ -63,7 +63,7 @@ abbrev pub gives : Components → Json → List ℕ → Bool
 gives component j name = list_any (λ item. fills name (given_of component item)) (items_at (codes "parameters") j)
 
 abbrev pub is_filled : (List ℕ → Bool) → Target → Bool
-is_filled given target = list_all given (names target.path)
+is_filled given target = list_all given (names target.operation.path)
 
 -- by the parameters of the step, and those of its workflow
 abbrev pub unfilled : Targets → Components → (workflow : List ℕ → Bool) → Check
@@ -90,5 +90,5 @@ rules_by find component description =
     ∷ (21, in_workflows (λ workflow. unfilled find component (gives component workflow)) description)
     ∷ []
 
-abbrev pub rules : (description : Json) → (sources : List Named) → (servers : List Member) → List Rule
+abbrev pub rules : (description : Json) → (sources : List Named) → (servers : List NamedText) → List Rule
 rules description sources servers = rules_by (targets sources servers) (component description) description

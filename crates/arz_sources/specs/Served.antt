@@ -8,16 +8,16 @@ use Rattle.std.specs.Ordering.{nat_cmp}
 use Rattle.std.specs.BTreeMap.{BTreeMap, get_by}
 use denote.Ref.{Bor}
 use Rattle.arz_json.specs.declared.tree.Json.{Json}
-use Rattle.arz_json.specs.declared.tree.Member.{Member}
 use Rattle.arz_json.specs.declared.tree.Named.{Named}
+use Rattle.arz_json.specs.declared.tree.NamedText.{NamedText}
 use Rattle.arz_operation.specs.Named.{Standing, operation_of}
 use Rattle.arz_operation.specs.declared.types.Operation.{Operation}
 use Rattle.arz_openapi.specs.Parts.{operation_rule}
-use Rattle.arz_description.specs.declared.parts.Call.{Call}
-use Rattle.arz_description.specs.declared.parts.Call.TheVariants.{Id, At, Flow}
-use Rattle.arz_sources.specs.Called.{Lookup, with_id, at_pointer}
-use Rattle.arz_sources.specs.Targets as spec
-use Rattle.arz_sources.specs.Targets.{Targets, given_server, unless_flow, seen_at}
+use Rattle.arz_operation.specs.declared.types.Call.{Call}
+use Rattle.arz_operation.specs.declared.types.Call.TheVariants.{Id, At, Flow}
+use Rattle.arz_openapi.specs.Called.{Lookup, with_id, at_pointer}
+use Rattle.arz_openapi.specs.Targets as spec
+use Rattle.arz_openapi.specs.Targets.{Targets, given_server, unless_flow, seen_at}
 use Rattle.arz_sources.specs.declared.sources.Source.{Source}
 use Rattle.arz_sources.specs.declared.sources.Sources.{Sources}
 use Rattle.arz_sources.specs.declared.calls.Target.{Target}
@@ -30,7 +30,7 @@ pub record Served : Type 0 where
   pub root : Json
   pub server : Option (List ℕ)
 
-abbrev pub served : List Member → Named → Served
+abbrev pub served : List NamedText → Named → Served
 served servers source = record { name = source.name; root = source.root; server = given_server servers source.name }
 
 abbrev pub seen_source : Source → Served
@@ -42,10 +42,10 @@ source_in_map m q = option_map (λ s. seen_source s.now) (get_by (λ k. slice_cm
 -- ---- what is found in them
 
 abbrev pub seen_target : Target → spec.Target
-seen_target t = record { path = t.operation.path; given = option_map (λ t. t.now) t.server; written = t.operation.server }
+seen_target t = record { operation = t.operation; given = option_map (λ t. t.now) t.server }
 
 abbrev pub shown : Served → Operation → spec.Target
-shown source operation = record { path = operation.path; given = source.server; written = operation.server }
+shown source operation = record { operation = operation; given = source.server }
 
 abbrev pub outcome_by : Option ℕ → spec.Target → Result spec.Target ℕ
 outcome_by None target = Ok target

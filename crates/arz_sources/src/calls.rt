@@ -7,9 +7,9 @@ ghost use Rattle.arz_rules.specs.Phases.{cause};
 ghost use Rattle.arz_operation.specs.Named.{Standing};
 ghost use Rattle.arz_openapi.specs.Parts.{found as found_at};
 ghost use Rattle.arz_description.specs.Calls.{call_of, operation_with, operation_at};
-ghost use Rattle.arz_sources.specs.Called.{with_id as id_search, at_pointer as pointer_search};
-ghost use Rattle.arz_sources.specs.Targets as spec;
-ghost use Rattle.arz_sources.specs.Targets.{seen_at};
+ghost use Rattle.arz_openapi.specs.Called.{with_id as id_search, at_pointer as pointer_search};
+ghost use Rattle.arz_openapi.specs.Targets as spec;
+ghost use Rattle.arz_openapi.specs.Targets.{seen_at};
 ghost use Rattle.arz_sources.specs.Served.{seen_source, seen_target, seen_outcome, outcome_at, asked, asked_named, one_of as one_of_both, only_of, found_in, lost_cause, source_in_map};
 ghost use Rattle.arz_sources.specs.declared.calls.Lost.TheVariants.{Memory};
 

@@ -1,9 +1,9 @@
 // Source documents, found by their names.
 ghost use Rattle.std.specs.Prelude.{◌≡◌, IfOk, List, ℕ, map, option_map};
-ghost use Rattle.arz_sources.specs.Targets.{given_server};
+ghost use Rattle.arz_openapi.specs.Targets.{given_server};
 ghost use Rattle.arz_sources.specs.Served.{served, seen_source, source_in_map, named_in};
 
-use arz_json::{Member, Named, value_named};
+use arz_json::{Named, NamedText};
 use arz_openapi::Operations;
 use std::alloc::{AllocError, Global};
 use std::collections::BTreeMap;
@@ -19,16 +19,17 @@ pub(crate) struct Source<'a> {
     pub server: Option<&'a str>,
 }
 
-fn server_text<'a>(servers: &'a [Member], name: &str) -> Option<&'a str>
+fn server_text<'a>(servers: &'a [NamedText], name: &str) -> Option<&'a str>
     ensures { option_map (λ t. t.now) result ≡ given_server servers.now name.now }
 {
-    value_named(servers, name)?.as_text()
+    let server = servers.iter().find(|s| s.name.as_str() == name)?;
+    Some(server.text.as_str())
 }
 
 fn read_source<'a>(
     alloc: Global,
     named: &'a Named,
-    servers: &'a [Member],
+    servers: &'a [NamedText],
 ) -> Result<Source<'a>, AllocError>
     ensures { IfOk result (λ s. seen_source s ≡ served servers.now named.now) }
 {
@@ -46,7 +47,7 @@ fn read_source<'a>(
 pub(crate) fn read_sources<'a>(
     alloc: Global,
     sources: &'a [Named],
-    servers: &'a [Member],
+    servers: &'a [NamedText],
 ) -> Result<Vec<Source<'a>>, AllocError>
     ensures { IfOk result (λ ss. map seen_source ss.items ≡ map (served servers.now) sources.now) }
 {

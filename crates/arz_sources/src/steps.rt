@@ -18,7 +18,7 @@ use crate::failures::{Failure, below_item, below_member, failure_of, lesser_fail
 use crate::given::{are_given, path_names};
 use crate::sources::{Sources, read_sources};
 use arz_components::{Components, text_of};
-use arz_json::{Json, Member, Named, items_at};
+use arz_json::{Json, Named, NamedText, items_at};
 use arz_rules::{RuleFault, TextSet, below_name, refuse, root_place};
 use arz_target::{names, server_url};
 use std::alloc::{AllocError, Global};
@@ -33,7 +33,7 @@ fn is_address(url: Option<&str>) -> bool
 }
 
 fn url_of<'t>(target: &'t Target) -> Option<&'t str>
-    ensures { option_map (λ t. t.now) result ≡ (seen_target target.now).written }
+    ensures { option_map (λ t. t.now) result ≡ (seen_target target.now).operation.server }
 {
     match &target.operation.server {
         Some(url) => Some(url.as_str()),
@@ -191,7 +191,7 @@ fn first_refusal(
     alloc: Global,
     description: &Json,
     sources: &[Named],
-    servers: &[Member],
+    servers: &[NamedText],
 ) -> Result<Option<Failure>, AllocError>
     ensures { IfOk result (λ f. option_map seen_failure f ≡ first_failure (rules description.now sources.now servers.now)) }
 {
@@ -209,7 +209,7 @@ pub fn check_steps(
     alloc: Global,
     description: &Json,
     sources: &[Named],
-    servers: &[Member],
+    servers: &[NamedText],
 ) -> Result<(), RuleFault>
     ensures { Gives (λ u. u) cause result (phase (codes "arazzo") (rules description.now sources.now servers.now) (Ok tt)) }
 {

@@ -9,7 +9,7 @@ use Rattle.arz_json.specs.declared.Json.TheVariants.{Int, Text, Object}
 use Rattle.arz_json.specs.declared.Member.{Member}
 use Rattle.arz_json.specs.declared.tree.Named.{Named}
 use Rattle.arz_flow.specs.declared.bundle.Bundle.{Bundle}
-use Rattle.arz_flow.specs.declared.bundle.NamedText.{NamedText}
+use Rattle.arz_json.specs.declared.NamedText.{NamedText}
 
 abbrev pub named : List ℕ → Json → Member
 named name value = record { name = name; value = value }

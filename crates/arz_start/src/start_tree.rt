@@ -4,8 +4,8 @@ ghost use Rattle.arz_json.specs.declared.Json.TheVariants.{Int, Text as Words, O
 ghost use Rattle.arz_start.specs.StartTree.{named, delay_word as word_of_delay, server_of, description_first, limits_next, servers_next, sources_last, start_tree};
 
 use crate::documents::documents;
-use arz_flow::{Bundle, NamedText};
-use arz_json::{Json, Many, Member, Members, Text, copy};
+use arz_flow::Bundle;
+use arz_json::{Json, Many, Member, Members, NamedText, Text, copy};
 use std::alloc::{AllocError, Global};
 
 /// The tree of a bundle: an object of its documents, and of what its setup says of the run. It copies the documents.

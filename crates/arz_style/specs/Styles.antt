@@ -8,7 +8,7 @@ use Rattle.arz_json.specs.declared.tree.Member.{Member}
 use Rattle.arz_json.specs.declared.tree.Style.{Style}
 use Rattle.arz_json.specs.declared.tree.Style.TheVariants.{Matrix, Label, Simple, Form, SpaceDelimited, PipeDelimited, DeepObject}
 use Rattle.arz_style.specs.Escapes.{spelt}
-use Rattle.arz_style.specs.Joined.{joined}
+use Rattle.arz_json.specs.Texts.{joined}
 use Rattle.arz_style.specs.Texts.{Made, made_of, is_null, flag_text, text_in, texts_of, pairs_of}
 use Rattle.arz_style.specs.declared.fault.StyleFault.TheVariants.{NotSerializable, FractionUsed}
 use Rattle.arz_style.specs.declared.texts.Pair.{Pair}

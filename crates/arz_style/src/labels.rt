@@ -2,7 +2,7 @@
 ghost use Rattle.std.specs.Prelude.{◌≡◌, ◌++◌, ◌∷◌, [], IfOk, map, codes};
 ghost use Rattle.std.specs.List.{flat_map};
 ghost use Rattle.arz_style.specs.Styles.{shows_name as name_shown, leaves_out as sign_left_out, inner as between_parts, valued as with_value, labelled, pair_text as text_of_pair, labels, pair_labels, parts_of, is_deep as deep};
-ghost use Rattle.arz_style.specs.Joined.{joined as joined_by};
+ghost use Rattle.arz_json.specs.Texts.{joined as joined_by};
 
 use crate::texts::Pair;
 use crate::writing::joined;

@@ -1,7 +1,7 @@
 // Texts with a separator between each two.
 ghost use Rattle.std.specs.Prelude.{◌≡◌, ◌++◌, IfOk, OnOk, string_bytes};
 ghost use Rattle.std.specs.List.{flat_map};
-ghost use Rattle.arz_style.specs.Joined.{joined as joined_by};
+ghost use Rattle.arz_json.specs.Texts.{joined as joined_by};
 
 use arz_json::Text;
 use std::alloc::{AllocError, Global};

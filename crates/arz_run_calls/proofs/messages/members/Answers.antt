@@ -1,5 +1,5 @@
 use Rattle.std.proofs.Common.{subst}
-use Rattle.arz_flow.specs.Shallow.{IsShallow}
+use Rattle.arz_scope.specs.Shallow.{IsShallow}
 use Rattle.arz_scope.proofs.Depths.{AreShallow-object}
 use Rattle.arz_run_calls.proofs.messages.members.Goals as goal
 

@@ -1,5 +1,5 @@
 use Rattle.std.proofs.Common.{sym, ◌∙◌, ap, Some, None}
-use Rattle.arz_flow.specs.Bodies.{kind_of_type, media_type}
+use Rattle.arz_scope.specs.Bodies.{kind_of_type, media_type}
 use Rattle.arz_scope.proofs.LineLemmas.{kind-plain, kind-coded}
 use Rattle.arz_scope.proofs.bodies.kind_of.Goals as goal
 

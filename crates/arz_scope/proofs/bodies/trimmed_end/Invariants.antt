@@ -1,5 +1,5 @@
 use Rattle.std.proofs.Common.{◌≡◌, length, reverse}
-use Rattle.arz_flow.specs.Bodies.{skip_blanks}
+use Rattle.arz_scope.specs.Bodies.{skip_blanks}
 use Rattle.arz_scope.proofs.bodies.trimmed_end.Given as goal
 
 abbrev pub invariant-blanks : goal.invariant-blanks

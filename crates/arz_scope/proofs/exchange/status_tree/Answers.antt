@@ -1,5 +1,5 @@
 use Rattle.std.proofs.Common.{arith, subst, sym, rules}
-use Rattle.arz_flow.specs.Shallow.{IsShallow}
+use Rattle.arz_scope.specs.Shallow.{IsShallow}
 use Rattle.arz_scope.proofs.Depths.{Int-shallow}
 use Rattle.arz_scope.proofs.exchange.status_tree.Goals as goal
 

@@ -1,5 +1,5 @@
 use Rattle.std.proofs.Common.{◌≡◌, ◌∷◌, map, take, codes}
-use Rattle.arz_flow.specs.Texts.{joined}
+use Rattle.arz_json.specs.Texts.{joined}
 use Rattle.arz_scope.proofs.fields.joined.Given as goal
 
 abbrev pub invariant-loop-value : goal.invariant-loop-value

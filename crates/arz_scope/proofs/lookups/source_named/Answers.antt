@@ -1,6 +1,6 @@
 use Rattle.std.proofs.Common.{codes, subst, sym}
 use Rattle.std.specs.Prelude.{All}
-use Rattle.arz_flow.specs.Shallow.{IsShallow}
+use Rattle.arz_scope.specs.Shallow.{IsShallow}
 use Rattle.arz_scope.proofs.Depths.{items-shallow}
 use Rattle.arz_scope.proofs.lookups.source_named.Goals as goal
 

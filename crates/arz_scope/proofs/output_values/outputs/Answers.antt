@@ -1,7 +1,7 @@
 use Rattle.std.proofs.Common.{◌≡◌, arith, rules}
 use Rattle.std.proofs.lemmas.Grind.{common_steps}
-use Rattle.arz_flow.specs.Outputs.{outputs_of}
-use Rattle.arz_flow.specs.Shallow.{AreShallow}
+use Rattle.arz_scope.specs.Outputs.{outputs_of}
+use Rattle.arz_scope.specs.Shallow.{AreShallow}
 use Rattle.arz_scope.proofs.OutputLemmas.{outputs-well_formed}
 use Rattle.arz_scope.proofs.output_values.outputs.Goals as goal
 

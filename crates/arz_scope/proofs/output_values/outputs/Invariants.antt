@@ -1,6 +1,6 @@
 use Rattle.std.proofs.Common.{◌≡◌, ◌++◌, drop}
-use Rattle.arz_flow.specs.Outputs.{outputs_in}
-use Rattle.arz_flow.specs.Shallow.{AreShallow}
+use Rattle.arz_scope.specs.Outputs.{outputs_in}
+use Rattle.arz_scope.specs.Shallow.{AreShallow}
 use Rattle.arz_scope.proofs.output_values.outputs.Given as goal
 
 abbrev pub invariant-loop-output : goal.invariant-loop-output

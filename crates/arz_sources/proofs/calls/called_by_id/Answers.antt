@@ -2,8 +2,8 @@ use Rattle.std.proofs.Common.{◌≡◌, ℕ, Option, Some, None, Result, option
 use Rattle.std.specs.List.{filter_map}
 use Rattle.arz_json.specs.Answer.{Gives}
 use Rattle.arz_description.specs.Calls.{source_and_id}
-use Rattle.arz_sources.specs.Called.{with_id}
-use Rattle.arz_sources.specs.Targets.{Target}
+use Rattle.arz_openapi.specs.Called.{with_id}
+use Rattle.arz_openapi.specs.Targets.{Target}
 use Rattle.arz_sources.specs.Served.{seen_source, seen_target, asked, asked_named, only_of, lost_cause, source_in_map}
 use Rattle.arz_sources.proofs.Found.{found-id, found-anywhere}
 use Rattle.arz_sources.proofs.calls.called_by_id.Goals as goal

@@ -1,7 +1,7 @@
 use Rattle.std.proofs.Common.{◌≡◌, ◌++◌, drop, map, option_map}
 use Rattle.std.specs.Option.{option_to_list}
 use Rattle.std.specs.List.{filter_map}
-use Rattle.arz_sources.specs.Called.{with_id}
+use Rattle.arz_openapi.specs.Called.{with_id}
 use Rattle.arz_sources.specs.Served.{seen_source, seen_outcome, asked, only_of}
 use Rattle.arz_sources.proofs.calls.find_anywhere.Given as goal
 

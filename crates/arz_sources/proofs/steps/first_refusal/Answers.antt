@@ -1,7 +1,7 @@
 use Rattle.std.proofs.Common.{◌≡◌, ℕ, List, map, ap, ◌∙◌}
 use Rattle.arz_rules.specs.Phases.{first_failure}
 use Rattle.arz_components.specs.Indexes.{finds}
-use Rattle.arz_sources.specs.Targets.{targets}
+use Rattle.arz_openapi.specs.Targets.{targets}
 use Rattle.arz_sources.specs.Rules.{rules_by, rules}
 use Rattle.arz_sources.specs.Served.{served, seen_source, source_in_map, named_in, found_in}
 use Rattle.arz_sources.proofs.Found.{found-targets}

@@ -1,5 +1,5 @@
 use Rattle.std.proofs.Common.{sym, subst}
-use Rattle.arz_flow.specs.Shallow.{AreShallow}
+use Rattle.arz_scope.specs.Shallow.{AreShallow}
 use Rattle.arz_machine.proofs.Entering.{as_spoken}
 use Rattle.arz_machine.proofs.Facts.{shallow_members}
 use Rattle.arz_machine.proofs.run.Run.scope.Goals as goal

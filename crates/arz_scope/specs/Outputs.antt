@@ -6,7 +6,7 @@ use Rattle.arz_json.specs.declared.Member.{Member}
 use Rattle.arz_expr.specs.Reading.{reading}
 use Rattle.arz_expr.specs.Values.{value_in}
 use Rattle.arz_expr.specs.declared.syntax.Base.{Base}
-use Rattle.arz_flow.specs.Documents.{members_at}
+use Rattle.arz_json.specs.Look.{members_at}
 
 module _ (found : Base → Option Json) where
   -- the value of the expression that a tree spells

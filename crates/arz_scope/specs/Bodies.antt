@@ -8,7 +8,7 @@ use Rattle.arz_json.specs.declared.Json.{Json}
 use Rattle.arz_json.specs.declared.Json.TheVariants.{Text}
 use Rattle.arz_world.specs.declared.Header.{Header}
 use Rattle.arz_world.specs.declared.Reply.{Reply}
-use Rattle.arz_flow.specs.Texts.{joined}
+use Rattle.arz_json.specs.Texts.{joined}
 
 -- names are compared in any ASCII case
 abbrev pub has_name : List ℕ → Header → Bool

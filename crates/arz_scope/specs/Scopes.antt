@@ -14,10 +14,15 @@ use Rattle.arz_world.specs.declared.Request.{Request}
 use Rattle.arz_world.specs.declared.Sent.{Sent}
 use Rattle.arz_expr.specs.declared.syntax.Base.{Base}
 use Rattle.arz_expr.specs.declared.syntax.Base.TheVariants as base
-use Rattle.arz_flow.specs.declared.facts.Fact.{Fact}
-use Rattle.arz_flow.specs.Bodies.{header_field, body_value}
-use Rattle.arz_flow.specs.Documents.{text_at, items_at}
-use Rattle.arz_flow.specs.Play.{Completion}
+use Rattle.arz_scope.specs.declared.facts.Fact.{Fact}
+use Rattle.arz_scope.specs.Bodies.{header_field, body_value}
+use Rattle.arz_json.specs.Look.{text_at, items_at}
+
+-- one completed run of a workflow
+pub record Completion : Type 0 where
+  pub workflow : List ℕ
+  pub inputs : List Member
+  pub outputs : List Member
 
 -- what an attempt may speak of: its own request and reply, where it has them
 pub data Attempt : Type 0 where

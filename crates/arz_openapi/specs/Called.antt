@@ -7,8 +7,8 @@ use Rattle.arz_json.specs.declared.tree.Json.{Json}
 use Rattle.arz_json.specs.declared.tree.Named.{Named}
 use Rattle.arz_operation.specs.Named.{Standing, by_id}
 use Rattle.arz_openapi.specs.Parts.{operation_rule, by_path}
-use Rattle.arz_description.specs.declared.parts.Call.{Call}
-use Rattle.arz_description.specs.declared.parts.Call.TheVariants.{Id, At, Flow}
+use Rattle.arz_operation.specs.declared.types.Call.{Call}
+use Rattle.arz_operation.specs.declared.types.Call.TheVariants.{Id, At, Flow}
 
 -- an operation of a source: the source's name, its document, and where the operation stands in it
 pub record Called : Type 0 where
