@@ -8,14 +8,14 @@ use Rattle.arz_json.specs.declared.Member.{Member}
 use Rattle.arz_json.specs.declared.Named.{Named}
 use Rattle.arz_world.specs.declared.Reply.{Reply}
 use Rattle.arz_world.specs.declared.Request.{Request}
-use Rattle.arz_flow.specs.declared.answers.Cause.{Cause}
+use Rattle.arz_request.specs.declared.cause.Cause.{Cause}
 use Rattle.arz_flow.specs.declared.answers.Spot.{Spot}
 use Rattle.arz_flow.specs.declared.answers.End.TheVariants.{Stuck, Budget}
 use Rattle.arz_flow.specs.declared.bundle.Bundle.{Bundle}
 use Rattle.arz_scope.specs.declared.facts.Fact.{Fact}
 use Rattle.arz_flow.specs.Cases.{surroundings, spot, run_outputs, outputs_at_end}
 use Rattle.arz_flow.specs.Documents.{Operation, text_at, steps_of, workflow_named}
-use Rattle.arz_flow.specs.Outcomes.{Made}
+use Rattle.arz_request.specs.Causes.{Made}
 use Rattle.arz_scope.specs.Outputs.{outputs_of}
 use Rattle.arz_flow.specs.Parameters.{parameters_of}
 use Rattle.arz_flow.specs.Requests.{request_by}

@@ -3,7 +3,7 @@ use Rattle.std.specs.Prelude.{◌≡◌, ℕ, List}
 use Rattle.arz_json.specs.declared.Member.{Member}
 use Rattle.arz_json.specs.declared.Refusal.{Refusal}
 use Rattle.arz_flow.specs.declared.answers.Ask.{Ask}
-use Rattle.arz_flow.specs.declared.answers.Cause.{Cause}
+use Rattle.arz_request.specs.declared.cause.Cause.{Cause}
 use Rattle.arz_flow.specs.declared.answers.Spot.{Spot}
 use Rattle.arz_flow.specs.declared.answers.End.TheVariants.{Completed, Broke, Out, Stuck, Budget}
 use Rattle.arz_session.specs.declared.session.Session.{Session}

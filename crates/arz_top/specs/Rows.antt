@@ -5,7 +5,7 @@ use Rattle.arz_json.specs.declared.Refusal.{Refusal}
 use Rattle.arz_rx.specs.Patterns.{PatternsView, Rose as PatternsRose}
 use Rattle.arz_world.specs.Outside.{Gains, Rose, FilesView, SinkView}
 use Rattle.arz_flow.specs.declared.answers.Ask.{Ask}
-use Rattle.arz_flow.specs.declared.answers.Cause.{Cause}
+use Rattle.arz_request.specs.declared.cause.Cause.{Cause}
 use Rattle.arz_flow.specs.declared.answers.Spot.{Spot}
 use Rattle.arz_flow.specs.declared.answers.End.TheVariants.{Completed, Broke, Out, Stuck, Budget}
 use Rattle.arz_flow.specs.declared.bundle.Bundle.{Bundle}
