@@ -1,10 +1,7 @@
 pub mod ComponentForms
 pub mod DescriptionFacts
-pub mod FormPaths
-pub mod FormsTold
 pub mod KindFacts
 pub mod LoadingLaws
-pub mod Noting
 pub mod Overlaying
 pub mod OverlaysTold
 pub mod Risen

@@ -1,8 +1,5 @@
 pub mod FileRules
 pub mod FileTree
-pub mod FormTexts
-pub mod FormWords
-pub mod Forms
 pub mod Laws
 pub mod Loading
 pub mod Naming
@@ -11,5 +8,4 @@ pub mod Phases
 pub mod Printable
 pub mod Replies
 pub mod Setup
-pub mod Standing
 pub mod Unbuilt

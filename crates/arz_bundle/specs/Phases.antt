@@ -1,8 +1,8 @@
 -- The phases in which the files are judged: of each the refusal that it tells, if a rule of it fails.
-use Rattle.std.specs.Prelude.{◌≡◌, ℕ, Bool, List, [], ◌∷◌, ◌++◌, codes, nat_le, not, find, if◌then◌else◌, Option, Some, None, option_map}
-use Rattle.arz_json.specs.Look.{members_at}
+use Rattle.std.specs.Prelude.{◌≡◌, ℕ, Bool, List, [], ◌∷◌, ◌++◌, codes, nat_le, if◌then◌else◌, Option, Some, None, option_map}
 use Rattle.arz_json.specs.declared.Json.{Json}
 use Rattle.arz_json.specs.declared.Named.{Named}
+use Rattle.arz_json.specs.declared.NamedText.{NamedText}
 use Rattle.arz_json.specs.declared.Refusal.{Refusal}
 use Rattle.arz_rules.specs.Phases.{Rule, refusal, first_failure}
 use Rattle.arz_doc.specs.Cycles.{TellsCycles}
@@ -10,9 +10,9 @@ use Rattle.arz_doc.specs.Order.{rules}
 use Rattle.arz_openapi.specs.Rules.{rules as source_rules}
 use Rattle.arz_sources.specs.Rules.{rules as step_rules}
 use Rattle.arz_bundle.specs.FileRules.{setup_rules, replies_rules}
-use Rattle.arz_bundle.specs.Forms.{is_source}
 use Rattle.arz_bundle.specs.Naming.{naming_rules}
-use Rattle.arz_bundle.specs.Unbuilt.{unbuilt_of_setup, unbuilt_of_description}
+use Rattle.arz_bundle.specs.Setup.{servers_of}
+use Rattle.arz_bundle.specs.Unbuilt.{unbuilt_of_description}
 
 -- the first of these rules that fails, as it is told with the document's label
 abbrev pub told : (label : List ℕ) → List Rule → Option Refusal
@@ -42,9 +42,8 @@ abbrev pub IsDescribed : (setup description : Json) → Option Refusal → Type 
 IsDescribed setup description told = (is_cyclic : ℕ → Bool) × TellsCycles description is_cyclic × (told ≡ description_told is_cyclic setup description)
 
 -- what isn't built yet
-abbrev pub unbuilt_told : (setup description : Json) → Option Refusal
-unbuilt_told setup description =
-    earlier (told (codes "setup") ((0, unbuilt_of_setup setup) ∷ [])) (told (codes "arazzo") ((0, unbuilt_of_description description) ∷ []))
+abbrev pub unbuilt_told : (description : Json) → Option Refusal
+unbuilt_told description = told (codes "arazzo") ((0, unbuilt_of_description description) ∷ [])
 
 -- the label of a source in refusals
 abbrev pub source_label : (name : List ℕ) → List ℕ
@@ -54,13 +53,12 @@ source_label name = codes "source " ++ name
 abbrev pub source_told : (label : List ℕ) → (source : Json) → Option Refusal
 source_told label source = told label (source_rules source)
 
--- the steps of the description, against the sources that they call
-unfoldable pub steps_told : (setup description : Json) → List Named → Option Refusal
-steps_told setup description sources = told (codes "arazzo") (step_rules description sources (members_at (codes "servers") setup))
+-- the steps of the description, against the sources that they call and the servers that the setup gives
+unfoldable pub steps_against : (description : Json) → List Named → List NamedText → Option Refusal
+steps_against description sources servers = told (codes "arazzo") (step_rules description sources servers)
 
--- the first source that isn't of the form that is built
-abbrev pub form_told : (description : Json) → List Named → Option Refusal
-form_told description sources = option_map (λ s. refusal (source_label s.name) (0, [])) (find (λ s. not (is_source description s.root)) sources)
+abbrev pub steps_told : (setup description : Json) → List Named → Option Refusal
+steps_told setup description sources = steps_against description sources (servers_of setup)
 
 abbrev pub replies_told : (replies : Json) → Option Refusal
 replies_told replies = told (codes "replies") (replies_rules replies)

@@ -1,9 +1,11 @@
 -- What a setup says of a run: which description, which workflow, and how.
-use Rattle.std.specs.Prelude.{ℕ, ℤ, pos, negsuc, nat_le, List, [], ◌∷◌, codes, Bool, if◌then◌else◌, Option, Some, None, option_and_then, unwrap_or}
+use Rattle.std.specs.Prelude.{ℕ, ℤ, pos, negsuc, nat_le, List, [], ◌∷◌, map, codes, Bool, if◌then◌else◌, Option, Some, None, option_and_then, unwrap_or}
 use Rattle.std.specs.Str.{bytes_eq}
 use Rattle.arz_json.specs.Look.{text_in, int_in, member_in, text_at, items_at, members_at}
 use Rattle.arz_json.specs.declared.Json.{Json}
+use Rattle.arz_json.specs.declared.Member.{Member}
 use Rattle.arz_json.specs.declared.Named.{Named}
+use Rattle.arz_json.specs.declared.NamedText.{NamedText}
 use Rattle.arz_flow.specs.declared.bundle.Bundle.{Bundle}
 
 -- ---- paths of files
@@ -52,6 +54,15 @@ journal_limit = number_at (codes "journalLimit") 1073741824 1073741824
 abbrev pub skips_delay : (setup : Json) → Bool
 skips_delay setup = bytes_eq (text_at (codes "delay") setup) (codes "skip")
 
+-- ---- servers
+
+abbrev pub server_of : Member → NamedText
+server_of m = record { name = m.name; text = unwrap_or (text_in m.value) [] }
+
+-- the URLs of servers that the setup gives, each under the name of its source
+abbrev pub servers_of : (setup : Json) → List NamedText
+servers_of setup = map server_of (members_at (codes "servers") setup)
+
 -- ---- the bundle
 
 -- what is executed, of these sources
@@ -59,7 +70,7 @@ abbrev pub bundle_of : (setup description : Json) → List Named → Bundle
 bundle_of setup description sources = record {
   arazzo = description;
   sources = sources;
-  servers = [];
+  servers = servers_of setup;
   workflow = workflow_run setup description;
   inputs = members_at (codes "inputs") setup;
   max_attempts = max_attempts setup;

@@ -4,7 +4,6 @@
 mod components;
 mod fault;
 mod files;
-mod forms;
 mod given;
 pub mod laws;
 mod loading;

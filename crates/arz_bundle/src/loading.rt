@@ -7,17 +7,17 @@ ghost use Rattle.arz_path.specs.Results.{Asked};
 ghost use Rattle.arz_bundle.specs.FileTree.{OrMemory};
 ghost use Rattle.arz_bundle.specs.Loading.{AfterBuilt, FromDescription, Loads};
 ghost use Rattle.arz_bundle.specs.Phases.{IsDescribed};
-ghost use Rattle.arz_bundle.specs.Setup.{bundle_of};
+ghost use Rattle.arz_bundle.specs.Setup.{bundle_of, servers_of};
 
 use crate::fault::LoadFault;
 use crate::files::read_tree;
 use crate::overlays::read_overlaid;
-use crate::phases::{check_built, check_calls, check_description, check_forms};
+use crate::phases::{check_built, check_calls, check_description};
 use crate::rules::check_setup;
-use crate::setup::{journal_limit, max_attempts, skips_delay, workflow_run};
+use crate::setup::{journal_limit, max_attempts, read_servers, skips_delay, workflow_run};
 use crate::sources::read_sources;
 use arz_flow::Bundle;
-use arz_json::{Json, Many, Members, Named, Text, items_at, text_at};
+use arz_json::{Json, Many, Members, Named, NamedText, Text, items_at, text_at};
 use arz_rx::Patterns;
 use arz_world::Files;
 use std::alloc::{AllocError, Global};
@@ -60,7 +60,7 @@ fn from_description<F: Files, P: Patterns>(
     let path = text_at(&setup, "arazzo");
     let description = read_overlaid(alloc, &setup, None, path, "arazzo", files, rx)?;
     check_description(alloc, &setup, &description)?;
-    check_built(alloc, &setup, &description)?;
+    check_built(alloc, &description)?;
     from_sources(alloc, setup, description, files, rx)
 }
 
@@ -82,9 +82,9 @@ fn from_sources<F: Files, P: Patterns>(
 {
     let described = items_at(&description, "sourceDescriptions");
     let sources = read_sources(alloc, &setup, described, files, rx)?;
-    check_calls(alloc, &setup, &description, sources.as_slice())?;
-    check_forms(alloc, &description, sources.as_slice())?;
-    Ok(make_bundle(alloc, setup, description, sources)?)
+    let servers = read_servers(alloc, &setup)?;
+    check_calls(alloc, &description, sources.as_slice(), servers.as_slice())?;
+    Ok(make_bundle(alloc, setup, description, sources, servers)?)
 }
 
 // What is executed.
@@ -93,7 +93,9 @@ fn make_bundle(
     setup: Json,
     description: Json,
     sources: Many<Named>,
+    servers: Many<NamedText>,
 ) -> Result<Bundle, AllocError>
+    requires { servers ≡ servers_of setup }
     ensures { IfOk result (λ bundle. bundle ≡ bundle_of setup description sources) }
 {
     let workflow = Text::from_str(alloc, workflow_run(&setup, &description))?;
@@ -103,7 +105,7 @@ fn make_bundle(
     Ok(Bundle {
         arazzo: description,
         sources,
-        servers: Many::new(alloc),
+        servers,
         workflow,
         inputs: into_inputs(alloc, setup),
         max_attempts,

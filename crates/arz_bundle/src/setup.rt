@@ -1,10 +1,11 @@
 // What a setup says of a run.
-ghost use Rattle.std.specs.Prelude.{◌≡◌, codes, option_and_then};
+ghost use Rattle.std.specs.Prelude.{◌≡◌, codes, option_and_then, IfOk};
 ghost use Rattle.arz_json.specs.Look.{text_in, int_in, member_in};
-ghost use Rattle.arz_bundle.specs.Setup.{path_given as given_path, path_of_source, first_text as text_in_first, workflow_run as run_workflow, number_to as to_limit, number_at as number_under, max_attempts as most_attempts, journal_limit as limit_of_journal, skips_delay as skips};
+ghost use Rattle.arz_bundle.specs.Setup.{path_given as given_path, path_of_source, first_text as text_in_first, workflow_run as run_workflow, number_to as to_limit, number_at as number_under, max_attempts as most_attempts, journal_limit as limit_of_journal, skips_delay as skips, server_of, servers_of};
 ghost use Rattle.std.specs.Option.{option_copied};
 
-use arz_json::{Json, items_at, text_at};
+use arz_json::{Json, Many, Member, NamedText, Text, items_at, members_at, text_at};
+use std::alloc::{AllocError, Global};
 
 /// The path at which a source is read: the one that the setup gives, or else the source's own `url`.
 pub(crate) fn source_path<'a>(setup: &'a Json, source: &'a Json) -> &'a str
@@ -94,4 +95,24 @@ fn number_to(limit: u32, n: i128) -> Option<u32>
     } else {
         None
     }
+}
+
+/// The URLs of servers that the setup gives, each under the name of its source.
+pub(crate) fn read_servers(alloc: Global, setup: &Json) -> Result<Many<NamedText>, AllocError>
+    ensures { IfOk result (λ servers. servers ≡ servers_of setup.now) }
+{
+    let members = members_at(setup, "servers");
+    let mut servers = Vec::with_capacity(alloc, members.len())?;
+    for member in members {
+        servers.push(read_server(alloc, member)?)?;
+    }
+    Ok(Many::from_std(servers))
+}
+
+fn read_server(alloc: Global, member: &Member) -> Result<NamedText, AllocError>
+    ensures { IfOk result (λ server. server ≡ server_of member.now) }
+{
+    let name = member.name.copy(alloc)?;
+    let text = Text::from_str(alloc, member.value.as_text().unwrap_or(""))?;
+    Ok(NamedText { name, text })
 }
