@@ -23,10 +23,10 @@ use std::alloc::{AllocError, Global};
 
 /// An operation that is called.
 #[derive(Debug, Drop)]
-pub(crate) struct Target<'a> {
+pub struct Target<'a> {
     /// The operation.
     pub operation: Operation,
-    /// The URL that the setup gives for its source, where it gives one.
+    /// The URL that is given for its source, where one is given.
     pub server: Option<&'a str>,
 }
 

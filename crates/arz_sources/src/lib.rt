@@ -11,8 +11,11 @@
 
 mod calls;
 mod failures;
+mod found;
 mod given;
 mod sources;
 mod steps;
 
+pub use calls::Target;
+pub use found::find_targets;
 pub use steps::check_steps;
