@@ -2,7 +2,7 @@
 use Rattle.std.specs.Prelude.{All}
 use Rattle.std.specs.Option.{ForSome}
 use Rattle.arz_json.specs.Shallow.{IsShallow}
-use Rattle.arz_world.specs.declared.Request.{Request}
+use Rattle.arz_world.specs.declared.messages.Request.{Request}
 
 -- each value that a request was made of, and its payload, is shallow
 pub record SendsShallow (q : Request) : Type 0 where
