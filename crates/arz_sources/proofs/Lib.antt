@@ -1,6 +1,6 @@
 pub mod Firsts
 pub mod Items
 pub mod Numbers
-pub mod Found
+pub mod Searches
 pub mod Indexed
 pub mod Names

@@ -1,3 +1,4 @@
 pub mod Rules
+pub mod Seen
 pub mod Served
 pub mod Failures

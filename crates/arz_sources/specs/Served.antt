@@ -18,6 +18,7 @@ use Rattle.arz_operation.specs.declared.types.Call.TheVariants.{Id, At, Flow}
 use Rattle.arz_openapi.specs.Called.{Lookup, with_id, at_pointer}
 use Rattle.arz_openapi.specs.Targets as spec
 use Rattle.arz_openapi.specs.Targets.{Targets, given_server, unless_flow, seen_at}
+use Rattle.arz_sources.specs.Seen.{seen_target}
 use Rattle.arz_sources.specs.declared.sources.Source.{Source}
 use Rattle.arz_sources.specs.declared.sources.Sources.{Sources}
 use Rattle.arz_sources.specs.declared.calls.Target.{Target}
@@ -40,9 +41,6 @@ abbrev pub source_in_map : BTreeMap (Bor (List ℕ)) (Bor Source) → List ℕ �
 source_in_map m q = option_map (λ s. seen_source s.now) (get_by (λ k. slice_cmp nat_cmp q k.now) m)
 
 -- ---- what is found in them
-
-abbrev pub seen_target : Target → spec.Target
-seen_target t = record { operation = t.operation; given = option_map (λ t. t.now) t.server }
 
 abbrev pub shown : Served → Operation → spec.Target
 shown source operation = record { operation = operation; given = source.server }

@@ -10,7 +10,8 @@ ghost use Rattle.arz_description.specs.Calls.{call_of, operation_with, operation
 ghost use Rattle.arz_openapi.specs.Called.{with_id as id_search, at_pointer as pointer_search};
 ghost use Rattle.arz_openapi.specs.Targets as spec;
 ghost use Rattle.arz_openapi.specs.Targets.{seen_at};
-ghost use Rattle.arz_sources.specs.Served.{seen_source, seen_target, seen_outcome, outcome_at, asked, asked_named, one_of as one_of_both, only_of, found_in, lost_cause, source_in_map};
+ghost use Rattle.arz_sources.specs.Seen.{seen_target};
+ghost use Rattle.arz_sources.specs.Served.{seen_source, seen_outcome, outcome_at, asked, asked_named, one_of as one_of_both, only_of, found_in, lost_cause, source_in_map};
 ghost use Rattle.arz_sources.specs.declared.calls.Lost.TheVariants.{Memory};
 
 use crate::sources::{Source, Sources};

@@ -2,7 +2,8 @@
 ghost use Rattle.std.specs.Prelude.{◌≡◌, IfOk, map, option_map};
 ghost use Rattle.arz_description.specs.Calls.{call_of};
 ghost use Rattle.arz_openapi.specs.Targets.{target_if, targets as targets_of};
-ghost use Rattle.arz_sources.specs.Served.{seen_target, found_in};
+ghost use Rattle.arz_sources.specs.Seen.{seen_target};
+ghost use Rattle.arz_sources.specs.Served.{found_in};
 
 use crate::calls::{Lost, Target, called};
 use crate::sources::{Sources, read_sources};

@@ -22,7 +22,7 @@ pub(crate) struct Source<'a> {
 fn server_text<'a>(servers: &'a [NamedText], name: &str) -> Option<&'a str>
     ensures { option_map (λ t. t.now) result ≡ given_server servers.now name.now }
 {
-    let server = servers.iter().find(|s| s.name.as_str() == name)?;
+    let server = servers.iter().find(|given| given.name.as_str() == name)?;
     Some(server.text.as_str())
 }
 

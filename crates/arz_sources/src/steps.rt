@@ -2,7 +2,6 @@
 ghost use Rattle.std.specs.Prelude.{◌≡◌, ◌||◌, Some, IfOk, Ok, codes, option_map, option_and_then};
 ghost use Rattle.std.specs.Option.{is_some};
 ghost use Rattle.arz_json.specs.Answer.{Gives};
-ghost use Rattle.arz_json.specs.Look.{items_at as items_under};
 ghost use Rattle.arz_rules.specs.Phases.{cause, phase, first_failure};
 ghost use Rattle.arz_rules.specs.Sets.{has};
 ghost use Rattle.arz_rules.specs.Sites.{in_items};
@@ -10,7 +9,8 @@ ghost use Rattle.arz_components.specs.Indexes.{finds};
 ghost use Rattle.arz_description.specs.Calls.{call_of};
 ghost use Rattle.arz_target.specs.Urls.{address_of};
 ghost use Rattle.arz_sources.specs.Rules.{gives, naming_member as member_named, is_served as served, at_items, rules_by, rules};
-ghost use Rattle.arz_sources.specs.Served.{seen_target, found_in};
+ghost use Rattle.arz_sources.specs.Seen.{seen_target};
+ghost use Rattle.arz_sources.specs.Served.{found_in};
 ghost use Rattle.arz_sources.specs.Failures.{seen_failure, fails, first_of, target_rule, rule_by, place_at};
 
 use crate::calls::{Lost, Target, called};

@@ -1,6 +1,6 @@
 use Rattle.std.proofs.Common.{◌≡◌, None, codes, rules}
 use Rattle.arz_components.specs.Texts.{text_named}
-use Rattle.arz_sources.proofs.Found.{found-flow}
+use Rattle.arz_sources.proofs.Searches.{found-flow}
 use Rattle.arz_sources.proofs.calls.called.Goals as goal
 
 pub returns : goal.returns

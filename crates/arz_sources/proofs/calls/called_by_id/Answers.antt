@@ -4,8 +4,9 @@ use Rattle.arz_json.specs.Answer.{Gives}
 use Rattle.arz_description.specs.Calls.{source_and_id}
 use Rattle.arz_openapi.specs.Called.{with_id}
 use Rattle.arz_openapi.specs.Targets.{Target}
-use Rattle.arz_sources.specs.Served.{seen_source, seen_target, asked, asked_named, only_of, lost_cause, source_in_map}
-use Rattle.arz_sources.proofs.Found.{found-id, found-anywhere}
+use Rattle.arz_sources.specs.Seen.{seen_target}
+use Rattle.arz_sources.specs.Served.{seen_source, asked, asked_named, only_of, lost_cause, source_in_map}
+use Rattle.arz_sources.proofs.Searches.{found-id, found-anywhere}
 use Rattle.arz_sources.proofs.calls.called_by_id.Goals as goal
 
 pub returns-in-Some : goal.returns-in-Some

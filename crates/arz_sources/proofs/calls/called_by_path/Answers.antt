@@ -3,8 +3,9 @@ use Rattle.arz_json.specs.Answer.{Gives}
 use Rattle.arz_description.specs.Calls.{source_and_pointer}
 use Rattle.arz_openapi.specs.Called.{at_pointer}
 use Rattle.arz_openapi.specs.Targets.{Target}
-use Rattle.arz_sources.specs.Served.{seen_target, asked_named, only_of, lost_cause, source_in_map}
-use Rattle.arz_sources.proofs.Found.{found-path, found-nowhere}
+use Rattle.arz_sources.specs.Seen.{seen_target}
+use Rattle.arz_sources.specs.Served.{asked_named, only_of, lost_cause, source_in_map}
+use Rattle.arz_sources.proofs.Searches.{found-path, found-nowhere}
 use Rattle.arz_sources.proofs.calls.called_by_path.Goals as goal
 
 pub returns-in-Some : goal.returns-in-Some

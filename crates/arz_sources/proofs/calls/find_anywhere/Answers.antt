@@ -3,7 +3,7 @@ use Rattle.std.specs.Option.{option_to_list}
 use Rattle.std.specs.List.{filter_map}
 use Rattle.arz_openapi.specs.Called.{with_id}
 use Rattle.arz_sources.specs.Served.{seen_source, seen_outcome, asked, only_of}
-use Rattle.arz_sources.proofs.Found.{one_more, both_found}
+use Rattle.arz_sources.proofs.Searches.{one_more, both_found}
 use Rattle.arz_sources.proofs.calls.find_anywhere.Goals as goal
 
 pub loop-source-preserved : goal.loop-source-preserved

@@ -5,7 +5,7 @@ use Rattle.arz_rules.specs.declared.phases.RuleFault.{RuleFault}
 use Rattle.arz_operation.specs.declared.types.Operation.{Operation}
 use Rattle.arz_openapi.specs.Parts.{found}
 use Rattle.arz_sources.specs.Served.{seen_source}
-use Rattle.arz_sources.proofs.Found.{told-none, told-operation, told-rule}
+use Rattle.arz_sources.proofs.Searches.{told-none, told-operation, told-rule}
 use Rattle.arz_sources.proofs.calls.outcome.Goals as goal
 
 pub returns-in-Ok-Some : goal.returns-in-Ok-Some

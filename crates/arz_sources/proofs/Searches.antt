@@ -7,10 +7,9 @@ use Rattle.arz_json.specs.declared.tree.Json.{Json}
 use Rattle.arz_json.specs.Look.{text_at}
 use Rattle.arz_components.specs.Texts.{text_named}
 use Rattle.arz_description.specs.Calls.{source_and_id, source_and_pointer, operation_with, operation_at, named_in as call_named, placed_in, call_by, call_of}
-use Rattle.arz_json.specs.declared.tree.Member.{Member}
 use Rattle.arz_json.specs.declared.tree.Named.{Named}
+use Rattle.arz_json.specs.declared.tree.NamedText.{NamedText}
 use Rattle.arz_json.specs.declared.tree.Refusal.{Refusal}
-use Rattle.arz_json.specs.Answer.{Fails}
 use Rattle.arz_rules.proofs.Steps.{rest_of}
 use Rattle.arz_sources.specs.declared.sources.Source.{Source}
 use Rattle.arz_operation.specs.Named.{Standing, operation_of}
@@ -23,26 +22,26 @@ use Rattle.arz_openapi.specs.Targets.{Target, target_of, seen_at, unless_flow, t
 use Rattle.arz_sources.specs.Served.{Served, served, seen_source, source_in_map, one_of, outcome_by, outcome_at, shown, asked, asked_named, named_in, outcomes, only_of, found_by, found_in}
 use Rattle.arz_sources.specs.declared.sources.Sources.{Sources}
 
-abbrev shows : List Member → Called → Result Target ℕ
+abbrev shows : List NamedText → Called → Result Target ℕ
 shows servers c = seen_at (target_of servers) (accepted c)
 
-accepted_by : (servers : List Member) (n : Named) (s : Standing) (o : Option ℕ)
+accepted_by : (servers : List NamedText) (n : Named) (s : Standing) (o : Option ℕ)
     → outcome_by o (shown (served servers n) (operation_of n.root s)) ≡ seen_at (target_of servers) (unless_fails (called_at n s) o)
 accepted_by servers n s None = refl
 accepted_by servers n s (Some rule) = refl
 
-found_one : (servers : List Member) (n : Named) (o : Option Standing) → option_map (outcome_at (served servers n)) o ≡ option_map (shows servers) (option_map (called_at n) o)
+found_one : (servers : List NamedText) (n : Named) (o : Option Standing) → option_map (outcome_at (served servers n)) o ≡ option_map (shows servers) (option_map (called_at n) o)
 found_one servers n None = refl
 found_one servers n (Some s) = ap Some (accepted_by servers n s (operation_rule n.root s))
 
-asked_one : (servers : List Member) (look : Lookup) (n : Named) → asked look (served servers n) ≡ option_map (shows servers) (in_source look n)
+asked_one : (servers : List NamedText) (look : Lookup) (n : Named) → asked look (served servers n) ≡ option_map (shows servers) (in_source look n)
 asked_one servers look n = found_one servers n (look n.root)
 
-consed : (servers : List Member) (o : Option Called) (cs : List Called) → cons_option (option_map (shows servers) o) (map (shows servers) cs) ≡ map (shows servers) (cons_option o cs)
+consed : (servers : List NamedText) (o : Option Called) (cs : List Called) → cons_option (option_map (shows servers) o) (map (shows servers) cs) ≡ map (shows servers) (cons_option o cs)
 consed servers None cs = refl
 consed servers (Some c) cs = refl
 
-asked_each : (servers : List Member) (look : Lookup) (sources : List Named)
+asked_each : (servers : List NamedText) (look : Lookup) (sources : List Named)
     → filter_map (asked look) (map (served servers) sources) ≡ map (shows servers) (filter_map (in_source look) sources)
 asked_each servers look [] = refl
 asked_each servers look (n ∷ sources) =
@@ -50,53 +49,63 @@ asked_each servers look (n ∷ sources) =
     ∙ ap (cons_option (option_map (shows servers) (in_source look n))) (asked_each servers look sources)
     ∙ consed servers (in_source look n) (filter_map (in_source look) sources)
 
-either : (servers : List Member) (b : Bool) (n : Named) (o : Option Named) → cond b (Some (served servers n)) (option_map (served servers) o) ≡ option_map (served servers) (cond b (Some n) o)
+either : (servers : List NamedText) (b : Bool) (n : Named) (o : Option Named) → cond b (Some (served servers n)) (option_map (served servers) o) ≡ option_map (served servers) (cond b (Some n) o)
 either servers true n o = refl
 either servers false n o = refl
 
-named_one : (servers : List Member) (name : List ℕ) (sources : List Named) → named_in (map (served servers) sources) name ≡ option_map (served servers) (source_named sources name)
+named_one : (servers : List NamedText) (name : List ℕ) (sources : List Named) → named_in (map (served servers) sources) name ≡ option_map (served servers) (source_named sources name)
 named_one servers name [] = refl
 named_one servers name (n ∷ sources) =
     ap (cond (bytes_eq n.name name) (Some (served servers n))) (named_one servers name sources)
     ∙ either servers (bytes_eq n.name name) n (source_named sources name)
 
-listed : (servers : List Member) (o : Option Called) → option_to_list (option_map (shows servers) o) ≡ map (shows servers) (option_to_list o)
+listed : (servers : List NamedText) (o : Option Called) → option_to_list (option_map (shows servers) o) ≡ map (shows servers) (option_to_list o)
 listed servers None = refl
 listed servers (Some c) = refl
 
-asked_of : (servers : List Member) (look : Lookup) (o : Option Named)
+asked_of : (servers : List NamedText) (look : Lookup) (o : Option Named)
     → option_to_list (option_and_then (asked look) (option_map (served servers) o)) ≡ map (shows servers) (option_to_list (option_and_then (in_source look) o))
 asked_of servers look None = refl
 asked_of servers look (Some n) = ap option_to_list (asked_one servers look n) ∙ listed servers (in_source look n)
 
-asked_by_name : (servers : List Member) (sources : List Named) (name : List ℕ) (look : Lookup)
+asked_by_name : (servers : List NamedText) (sources : List Named) (name : List ℕ) (look : Lookup)
     → asked_named (named_in (map (served servers) sources)) name look ≡ map (shows servers) (in_named sources name look)
 asked_by_name servers sources name look =
     ap (λ o. option_to_list (option_and_then (asked look) o)) (named_one servers name sources) ∙ asked_of servers look (source_named sources name)
 
-outcomes_same : (servers : List Member) (sources : List Named) (call : Call)
+outcomes_same : (servers : List NamedText) (sources : List Named) (call : Call)
     → outcomes (map (served servers) sources) (named_in (map (served servers) sources)) call ≡ map (shows servers) (candidates sources call)
 outcomes_same servers sources (Id None id) = asked_each servers (with_id id) sources
 outcomes_same servers sources (Id (Some name) id) = asked_by_name servers sources name (with_id id)
 outcomes_same servers sources (At name pointer) = asked_by_name servers sources name (at_pointer pointer)
 outcomes_same servers sources (Flow id) = refl
 
-only_same : (servers : List Member) (cs : List Called) → only_of (map (shows servers) cs) ≡ seen_at (target_of servers) (only cs)
+only_same : (servers : List NamedText) (cs : List Called) → only_of (map (shows servers) cs) ≡ seen_at (target_of servers) (only cs)
 only_same servers [] = refl
 only_same servers (c ∷ []) = refl
 only_same servers (c ∷ d ∷ cs) = refl
 
-found_same : (servers : List Member) (sources : List Named) (call : Call)
+found_same : (servers : List NamedText) (sources : List Named) (call : Call)
     → found_by (map (served servers) sources) (named_in (map (served servers) sources)) call ≡ targets sources servers call
+unfolding targets
 found_same servers sources call = ap (unless_flow call) (ap only_of (outcomes_same servers sources call) ∙ only_same servers (candidates sources call))
 
-pub found-targets : (s : Sources) (servers : List Member) (sources : List Named)
+found-served : (s : Sources) (servers : List NamedText) (sources : List Named)
     → map seen_source s.list.now ≡ map (served servers) sources
     → ((q : List ℕ) → source_in_map s.names q ≡ named_in (map (served servers) sources) q)
     → found_in s ≡ targets sources servers
 unfolding found_in
-found-targets s servers sources list names =
+found-served s servers sources list names =
     (λ i. found_by (list i) (λ q. names q i)) ∙ (λ i call. found_same servers sources call i)
+
+-- sources that were read, and are found by their names
+pub found-targets : (s : Sources) (servers : List NamedText) (sources : List Named) (list : List Source)
+    → map seen_source list ≡ map (served servers) sources
+    → map seen_source s.list.now ≡ map seen_source list
+    → ((q : List ℕ) → source_in_map s.names q ≡ named_in (map seen_source list) q)
+    → found_in s ≡ targets sources servers
+found-targets s servers sources list are same names =
+    found-served s servers sources (same ∙ are) (λ q. names q ∙ ap (λ xs. named_in xs q) are)
 
 -- ---- what is found for the text of a step
 
@@ -175,13 +184,3 @@ both_found (Some x) None c rest e =
     let same : Some x ≡ c = cc in
     ap (λ o. only_of (option_to_list o ++ rest)) same
 both_found (Some x) (Some y) c rest e = absurd (cc)
-
--- several that are found are refused
-pub several_found : (a b : Option (Result Target ℕ)) (rest : List (Result Target ℕ)) (total : Result Target ℕ) (fault : Option ℕ)
-    → total ≡ only_of (option_to_list a ++ (option_to_list b ++ rest)) → Fails fault (one_of a b) → Fails fault total
-several_found a b rest total None e h = tt
-several_found None b rest total (Some n) e h = absurd (cc)
-several_found (Some x) None rest total (Some n) e h = absurd (cc)
-several_found (Some x) (Some y) rest total (Some n) e h =
-    let same : 17 ≡ n = cc in
-    e ∙ ap Err same
