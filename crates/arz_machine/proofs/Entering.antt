@@ -1,59 +1,79 @@
 -- What a run makes of a step.
-use Rattle.std.proofs.Common.{◌≡◌, ℕ, ◌<◌, List, [], length, codes, get_or, Result, Ok, Err, Option, None, Some, IfOk, Bool, true, false, refl, ap, sym, ◌∙◌, subst}
+use Rattle.std.proofs.Common.{◌≡◌, ℕ, ◌<◌, List, [], map, length, codes, get_or, Result, Ok, Err, Option, None, Some, IfOk, IfSome, Bool, true, false, refl, ap, sym, ◌∙◌, subst, arith}
 use Rattle.std.specs.Prelude.{slice_get}
+use Rattle.std.proofs.lemmas.List.{get_or-map}
 use Rattle.std.proofs.lemmas.Option.{slice_get-get_or, get_or_from_slice_get}
-use Rattle.arz_json.specs.Tree.{IsWithin}
+use Rattle.arz_json.specs.Answer.{Fails}
+use Rattle.arz_json.specs.Tree.{IsWithin, IsWellFormed}
 use Rattle.arz_json.specs.declared.Json.{Json}
 use Rattle.arz_json.specs.declared.Member.{Member}
-use Rattle.arz_json.specs.declared.Named.{Named}
+use Rattle.arz_json.proofs.Parts.{IsWithin-more}
 use Rattle.arz_world.specs.declared.Reply.{Reply}
 use Rattle.arz_world.specs.declared.Request.{Request}
+use Rattle.arz_expr.specs.declared.template.Body.{Body}
+use Rattle.arz_expr.specs.declared.template.Given.{Given}
+use Rattle.arz_components.specs.Described.{Components, component}
+use Rattle.arz_components.specs.declared.components.Part.{Part}
+use Rattle.arz_description.specs.Requests.{AreWellFormed, body_of}
+use Rattle.arz_description.proofs.Sound.{found_sound}
+use Rattle.arz_request.specs.Causes.{Made, told}
+use Rattle.arz_request.specs.Requests.{request}
+use Rattle.arz_request.specs.declared.cause.BuildFault.{BuildFault}
+use Rattle.arz_request.specs.declared.cause.BuildFault.TheVariants.{Stuck as StuckFault}
 use Rattle.arz_request.specs.declared.cause.Cause.{Cause}
-use Rattle.arz_flow.specs.declared.answers.Spot.{Spot}
-use Rattle.arz_flow.specs.declared.answers.End.TheVariants.{Stuck, Budget}
-use Rattle.arz_flow.specs.declared.bundle.Bundle.{Bundle}
+use Rattle.arz_scope.specs.Outputs.{outputs_of}
+use Rattle.arz_scope.specs.Scopes.{Nothing, Exchange, found}
+use Rattle.arz_scope.specs.Speaking.{Speaking, run_of as spoken_run, attempt_of}
 use Rattle.arz_scope.specs.declared.facts.Fact.{Fact}
 use Rattle.arz_flow.specs.Cases.{surroundings, spot, run_outputs, outputs_at_end}
-use Rattle.arz_flow.specs.Documents.{Operation, text_at, steps_of, workflow_named}
-use Rattle.arz_request.specs.Causes.{Made}
-use Rattle.arz_scope.specs.Outputs.{outputs_of}
-use Rattle.arz_flow.specs.Parameters.{parameters_of}
-use Rattle.arz_flow.specs.Requests.{request_by}
-use Rattle.arz_scope.specs.Scopes.{Nothing, Exchange, found}
-use Rattle.arz_flow.proofs.Within.{step-within}
-use Rattle.arz_json.specs.Answer.{Fails}
-use Rattle.arz_first_request.specs.Builds.{told}
-use Rattle.arz_first_request.specs.Operations.{operation_in}
-use Rattle.arz_first_request.specs.declared.faults.BuildFault.{BuildFault}
-use Rattle.arz_first_request.specs.declared.faults.BuildFault.TheVariants.{Stuck as StuckFault}
-use Rattle.arz_scope.specs.Speaking.{Speaking, run_of as spoken_run, attempt_of}
+use Rattle.arz_flow.specs.Documents.{text_at, steps_of, workflow_named}
+use Rattle.arz_flow.specs.Requests.{endpoint_of, given_to, request_of}
+use Rattle.arz_flow.specs.declared.answers.End.TheVariants.{Stuck, Budget}
+use Rattle.arz_flow.specs.declared.answers.Spot.{Spot}
+use Rattle.arz_flow.specs.declared.bundle.Bundle.{Bundle}
+use Rattle.arz_flow.specs.declared.endpoint.Endpoint.{Endpoint}
+use Rattle.arz_flow.proofs.Within.{step-within, workflow-within}
+use Rattle.arz_machine.specs.Joining.{joined_of}
 use Rattle.arz_machine.specs.Spoken.{spoken}
-use Rattle.arz_machine.specs.States.{Sends, Ended, run_of, is_spent, rest_by, entered, next_fact}
+use Rattle.arz_machine.specs.States.{Sends, Ended, run_of, is_spent, rest_by, request_in, next_fact}
+
+-- ---- what is read is well-formed
+
+pub well_formed : (j : Json) → IsWithin 127 j → IsWellFormed j
+well_formed j w = IsWithin-more 127 130 j (omega arith) w
 
 -- a step nests no deeper than the description
-pub step_shallow : (b : Bundle) (steps : List Json) (i : ℕ) (d : Json) → IsWithin 127 b.arazzo → steps ≡ steps_of b b.workflow → i < length steps → IsWithin 127 (get_or steps i d)
-step_shallow b steps i d w listed lt = step-within 127 b b.workflow _ i (ap (λ l. slice_get l i) (sym listed) ∙ slice_get-get_or steps i d lt) w
+pub step_sound : (b : Bundle) (steps : List Json) (i : ℕ) (d : Json) → IsWithin 127 b.arazzo → steps ≡ steps_of b b.workflow → i < length steps → IsWellFormed (get_or steps i d)
+step_sound b steps i d w listed lt =
+    well_formed (get_or steps i d) (step-within 127 b b.workflow _ i (ap (λ l. slice_get l i) (sym listed) ∙ slice_get-get_or steps i d lt) w)
+
+pub workflow_sound : (b : Bundle) (read : Option Json) → IsWithin 127 b.arazzo → read ≡ workflow_named b.workflow b.arazzo → IfSome read IsWellFormed
+workflow_sound b None w named = tt
+workflow_sound b (Some k) w named = well_formed k (workflow-within 127 b.workflow b.arazzo k (sym named) w)
+
+pub components_sound : (b : Bundle) (find : Components) → IsWithin 127 b.arazzo → ((part : Part) (q : List ℕ) → find part q ≡ component b.arazzo part q) → AreWellFormed find
+components_sound b find w same = found_sound find b.arazzo same (well_formed b.arazzo w)
+
+-- ---- what a step calls, and what is given to it
+
+pub the_endpoint : (b : Bundle) (steps : List Json) (all : List Endpoint) (i : ℕ) (d : Json) (e : Endpoint) → all ≡ map (endpoint_of b) steps → i < length steps → get_or all i e ≡ endpoint_of b (get_or steps i d)
+the_endpoint b steps all i d e called lt = ap (λ (l : List Endpoint). get_or l i e) called ∙ get_or-map (endpoint_of b) steps i d e lt
+
+pub given_as : (b : Bundle) (find : Components) (read workflow : Option Json) (step : Json) → ((part : Part) (q : List ℕ) → find part q ≡ component b.arazzo part q) → read ≡ workflow
+    → joined_of find read step ≡ given_to b workflow step
+given_as b find read workflow step same named = (λ i. joined_of (λ part q. same part q i) read step) ∙ ap (λ o. joined_of (component b.arazzo) o step) named ∙ by_flow workflow
+  where
+    by_flow : (o : Option Json) → joined_of (component b.arazzo) o step ≡ given_to b o step
+    by_flow None = refl
+    by_flow (Some w) = refl
+
+-- ---- what is made of a step
 
 -- the step that was read is the one that is there
 pub the_step : (steps : List Json) (i : ℕ) (d step : Json) → slice_get steps i ≡ Some step → get_or steps i d ≡ step
 the_step steps i d step at = get_or_from_slice_get steps i step d at
 
-abbrev made_fact : List ℕ → List Member → Fact
-made_fact id outputs = record { step = id; outputs = outputs }
-
-module _ (b : Bundle) (facts : List Fact) (read step : Json) (same : read ≡ step) where
-  -- what is made of the step that was read
-  pub enters_as : (s : Speaking) (o : Operation) (sources : List Named) (made : Made Request) → s ≡ spoken b facts None → o ≡ operation_in sources read → sources ≡ b.sources
-      → request_by (found (spoken_run s) (attempt_of s.exchange)) o (parameters_of b.arazzo read) ≡ made → rest_by b facts made (spot (run_of b facts) step) ≡ entered b facts step
-  unfolding spoken
-  enters_as s o sources made speaks op known e =
-      let here = found (surroundings b (run_of b facts) []) Nothing in
-      ap (λ z. rest_by b facts z (spot (run_of b facts) step))
-      (sym e
-      ∙ ap (λ z. request_by (found (spoken_run z) (attempt_of z.exchange)) o (parameters_of b.arazzo read)) speaks
-      ∙ ap (λ z. request_by here z (parameters_of b.arazzo read)) (op ∙ ap (λ l. operation_in l read) known)
-      ∙ ap (λ z. request_by here (operation_in b.sources z) (parameters_of b.arazzo z)) same)
-
+module _ (b : Bundle) (facts : List Fact) (step : Json) where
   -- a request that is made, where the budget lasts and where it is spent
   pub sent_by : (spent : Bool) (q : Request) → spent ≡ is_spent b facts → spent ≡ false → Sends q ≡ rest_by b facts (Ok q) (spot (run_of b facts) step)
   sent_by spent q is lasts = rw (sym is ∙ lasts) refl
@@ -61,13 +81,28 @@ module _ (b : Bundle) (facts : List Fact) (read step : Json) (same : read ≡ st
   pub spent_by : (spent : Bool) (q : Request) → spent ≡ is_spent b facts → spent ≡ true → Ended (Budget b.max_attempts) ≡ rest_by b facts (Ok q) (spot (run_of b facts) step)
   spent_by spent q is over = rw (sym is ∙ over) refl
 
+abbrev made_fact : List ℕ → List Member → Fact
+made_fact id outputs = record { step = id; outputs = outputs }
+
+module _ (b : Bundle) (facts : List Fact) (read step : Json) (same : read ≡ step) where
+  -- the request that is made of the step that was read
+  pub requested_as : (s : Speaking) (e : Endpoint) (gs : List Given) (body : Option Body) → s ≡ spoken b facts None → e ≡ endpoint_of b read
+      → gs ≡ given_to b (workflow_named b.workflow b.arazzo) read → body ≡ body_of read
+      → request (found (spoken_run s) (attempt_of s.exchange)) e.operation e.server gs body ≡ request_in b facts step
+  unfolding spoken
+  requested_as s e gs body speaks calls gives has =
+      let here = found (surroundings b (run_of b facts) []) Nothing in
+      let workflow = workflow_named b.workflow b.arazzo in
+      let end = endpoint_of b read in
+      ap (λ (z : Speaking). request (found (spoken_run z) (attempt_of z.exchange)) e.operation e.server gs body) speaks
+      ∙ ap (λ (z : Endpoint). request here z.operation z.server gs body) calls
+      ∙ ap (λ (z : List Given). request here end.operation end.server z body) gives
+      ∙ ap (λ (z : Option Body). request here end.operation end.server (given_to b workflow read) z) has
+      ∙ ap (request_of b here workflow) same
+
+  -- the end at the step that was read
   pub stuck_at : (at_read : Spot) (cause : Cause) → at_read ≡ spot (run_of b facts) read → Ended (Stuck cause at_read) ≡ rest_by b facts (Err cause) (spot (run_of b facts) step)
   stuck_at at_read cause e = ap (λ z. Ended (Stuck cause z)) (e ∙ ap (spot (run_of b facts)) same)
-
-  -- the cause why there is no request
-  pub stuck_by : (s : Speaking) (o : Operation) (fault : BuildFault) (cause : Cause) → Fails (told fault) (request_by (found (spoken_run s) (attempt_of s.exchange)) o (parameters_of b.arazzo read))
-      → fault ≡ StuckFault cause → request_by (found (spoken_run s) (attempt_of s.exchange)) o (parameters_of b.arazzo read) ≡ Err cause
-  stuck_by s o fault cause builds is = subst (λ f. Fails (told f) (request_by (found (spoken_run s) (attempt_of s.exchange)) o (parameters_of b.arazzo read))) is builds
 
   -- the fact of the step that was read
   pub fact_as : (s : Speaking) (q : Request) (y : Reply) (id : List ℕ) (outputs : List Member) → s ≡ spoken b facts (Some (q, y)) → id ≡ text_at (codes "stepId") read
@@ -78,6 +113,10 @@ module _ (b : Bundle) (facts : List Fact) (read step : Json) (same : read ≡ st
       ap (λ z. made_fact z outputs) (named ∙ ap (text_at (codes "stepId")) same)
       ∙ ap (made_fact (text_at (codes "stepId") step))
       (given ∙ ap (λ z. outputs_of (found (spoken_run z) (attempt_of z.exchange)) read) speaks ∙ ap (outputs_of there) same)
+
+-- the cause why there is no request
+pub stuck_by : (fault : BuildFault) (cause : Cause) (made : Made Request) → Fails (told fault) made → fault ≡ StuckFault cause → made ≡ Err cause
+stuck_by fault cause made fails is = subst (λ f. Fails (told f) made) is fails
 
 -- what holds under a condition that is met
 pub given_if : {X E A : Type 0} (P : X → Type 0) (r : Result X E) → IfOk r (λ x. A → P x) → A → IfOk r P

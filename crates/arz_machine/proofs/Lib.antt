@@ -2,3 +2,5 @@ pub mod Turning
 pub mod MachineAt
 mod Facts
 mod Entering
+mod Joining
+mod Reaching

@@ -4,3 +4,5 @@ pub mod Resting
 pub mod Rests
 pub mod At
 pub mod Spoken
+pub mod Joining
+pub mod Reached

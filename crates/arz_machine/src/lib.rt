@@ -2,9 +2,12 @@
 #![tactic(auto)]
 
 mod answers;
+mod endpoints;
+mod given;
 mod machine;
 mod run;
 mod state;
 mod turns;
+mod workflow;
 
 pub use machine::{Machine, MachineFault, Next};

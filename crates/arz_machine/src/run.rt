@@ -1,11 +1,16 @@
 // A run of the starting workflow.
-ghost use Rattle.std.specs.Prelude.{◌≡◌};
-ghost use Rattle.arz_flow.specs.Documents.{steps_of};
-ghost use Rattle.arz_scope.specs.Shallow.{HaveShallow};
+ghost use Rattle.std.specs.Prelude.{◌≡◌, ℕ, List, map};
+ghost use Rattle.std.specs.Option.{option_copied};
+ghost use Rattle.arz_components.specs.Described.{component};
+ghost use Rattle.arz_components.specs.Indexes.{finds};
+ghost use Rattle.arz_components.specs.declared.components.Part.{Part};
+ghost use Rattle.arz_flow.specs.Documents.{workflow_named, steps_of};
+ghost use Rattle.arz_flow.specs.Requests.{endpoint_of};
 ghost use Rattle.arz_flow.specs.Valid.{IsValid};
+ghost use Rattle.arz_scope.specs.Shallow.{HaveShallow};
 
-use arz_first_request::Operations;
-use arz_flow::{Bundle, Fact};
+use arz_components::Components;
+use arz_flow::{Bundle, Endpoint, Fact};
 use arz_json::{Json, Many};
 use std::alloc::Global;
 
@@ -15,14 +20,20 @@ pub(crate) struct Run<'a> {
     pub alloc: Global,
     /// What is executed.
     pub bundle: &'a Bundle,
+    /// The components of the description.
+    pub components: Components<'a>,
+    /// The workflow, where the description has it.
+    pub workflow: Option<&'a Json>,
     /// The steps of the workflow.
     pub steps: &'a [Json],
-    /// The operations of the sources.
-    pub operations: Operations<'a>,
+    /// What each of the steps calls.
+    pub endpoints: Many<Endpoint>,
     /// What each attempt left, in order.
     pub facts: Many<Fact>,
     ghost valid: { IsValid bundle.now },
+    ghost found: { (part : Part) (q : List ℕ) → finds components part q ≡ component bundle.now.arazzo part q },
+    ghost named: { option_copied workflow ≡ workflow_named bundle.now.workflow bundle.now.arazzo },
     ghost listed: { steps.now ≡ steps_of bundle.now bundle.now.workflow },
-    ghost known: { operations ≡ bundle.now.sources },
+    ghost called: { endpoints ≡ map (endpoint_of bundle.now) steps.now },
     ghost shallow: { HaveShallow facts },
 }

@@ -2,22 +2,29 @@
 ghost use Rattle.std.specs.Prelude.{◌≡◌, ℕ, ◌+◌, ◌<◌, ◌++◌, ◌∷◌, [], length, slice_get, true, IfOk, OnOk, OnErr, Some};
 ghost use Rattle.std.specs.Option.{option_copied};
 ghost use Rattle.arz_json.specs.declared.Json.{Json};
+ghost use Rattle.arz_json.specs.Answer.{Gives};
 ghost use Rattle.arz_json.specs.Tree.{IsWellFormed};
+ghost use Rattle.arz_request.specs.Causes.{told};
+ghost use Rattle.arz_scope.specs.Shallow.{AreShallow, SendsShallow};
 ghost use Rattle.arz_flow.specs.Cases.{spot as spot_of, outputs_at_end};
-ghost use Rattle.arz_scope.specs.Shallow.{AreShallow};
 ghost use Rattle.arz_flow.specs.Valid.{IsValid};
 ghost use Rattle.arz_machine.specs.Plain.{is_plain};
 ghost use Rattle.arz_machine.specs.Resting.{rest_of};
 ghost use Rattle.arz_machine.specs.Spoken.{spoken};
-ghost use Rattle.arz_machine.specs.States.{has_step, run_of, is_spent, entered, closed, goes_to, next_fact};
+ghost use Rattle.arz_machine.specs.States.{has_step, run_of, is_spent, request_in, entered, closed, goes_to, next_fact};
 
+use crate::endpoints::endpoints;
+use crate::given::given;
 use crate::run::Run;
 use crate::state::{Ready, State};
-use arz_first_request::{BuildFault, Operations, request, steps, workflow};
+use crate::workflow::{steps, workflow};
+use arz_components::Components;
+use arz_description::read_body;
 use arz_flow::{Bundle, Cause, End, Fact, Spot, text_at};
 use arz_json::{Json, Many, Members, Text};
+use arz_request::{BuildFault, build};
 use arz_scope::{Exchange, RunScope, any_opaque, outputs};
-use arz_world::Reply;
+use arz_world::{Reply, Request};
 use std::alloc::{AllocError, Global};
 
 impl<'a> Run<'a> {
@@ -27,11 +34,16 @@ impl<'a> Run<'a> {
         ensures bundle { IfOk result (λ run. run.bundle.now ≡ bundle.now) }
         ensures facts { IfOk result (λ run. run.facts ≡ []) }
     {
+        let components = Components::of(alloc, &bundle.arazzo)?;
+        let steps = steps(bundle);
+        let endpoints = endpoints(alloc, bundle, steps)?;
         Ok(Run {
             alloc,
             bundle,
-            steps: steps(bundle),
-            operations: Operations::of(alloc, bundle.sources.as_slice())?,
+            components,
+            workflow: workflow(bundle),
+            steps,
+            endpoints,
             facts: Many::new(alloc),
         })
     }
@@ -45,14 +57,35 @@ impl<'a> Run<'a> {
         ensures plain { IfOk result (λ state. is_plain (rest_of state) ≡ true) }
     {
         let step = &self.steps[index];
-        let scope = self.scope(None)?;
-        let operation = self.operations.operation_of(step);
-        match request(self.alloc, &operation, &self.bundle.arazzo, step, &scope) {
+        match self.request(index) {
             Ok(_) if self.is_spent() => Ok(State::Ended(End::Budget(self.bundle.max_attempts))),
             Ok(request) => Ok(State::Sends(Ready { request })),
             Err(BuildFault::Stuck(cause)) => Ok(State::Ended(End::Stuck(cause, self.spot(step)?))),
             Err(BuildFault::Memory) => Err(AllocError),
         }
+    }
+
+    // The request of the step at this index.
+    fn request(&self, index: usize) -> Result<Request, BuildFault>
+        requires { index < length self.now.steps.now }
+        ensures builds { (step : Json) → slice_get self.now.steps.now index ≡ Some step
+            → Gives (λ q. q) told result (request_in self.now.bundle.now self.now.facts step) }
+        ensures shallow { IfOk result SendsShallow }
+    {
+        let alloc = self.alloc;
+        let step = &self.steps[index];
+        let endpoint = &self.endpoints.as_slice()[index];
+        let given = given(alloc, &self.components, self.workflow, step)?;
+        let body = read_body(alloc, step)?;
+        let scope = self.scope(None)?;
+        build(
+            alloc,
+            &endpoint.operation,
+            &endpoint.server,
+            &given,
+            body.as_ref(),
+            &scope,
+        )
     }
 
     /// The fact of an attempt of the step at this index.
@@ -134,7 +167,7 @@ impl<'a> Run<'a> {
         ensures value { IfOk result (λ given. given ≡ outputs_at_end self.now.bundle.now (run_of self.now.bundle.now self.now.facts) []) }
         ensures well_formed { IfOk result (λ given. IsWellFormed (Json.Object given)) }
     {
-        let Some(workflow) = workflow(self.bundle) else {
+        let Some(workflow) = self.workflow else {
             return Ok(Many::new(self.alloc));
         };
         let scope = self.scope(None)?;

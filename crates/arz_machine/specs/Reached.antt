@@ -1,0 +1,10 @@
+-- ---- for private clauses: what a step calls, as it is found
+use Rattle.std.specs.Prelude.{Option}
+use Rattle.std.specs.Option.{option_map_or}
+use Rattle.arz_openapi.specs.Targets.{Target}
+use Rattle.arz_flow.specs.Requests.{endpoint_at, no_endpoint}
+use Rattle.arz_flow.specs.declared.endpoint.Endpoint.{Endpoint}
+
+-- what is called, where anything is
+abbrev pub endpoint_if : Option Target → Endpoint
+endpoint_if target = option_map_or endpoint_at target no_endpoint
