@@ -1,5 +1,5 @@
 // The calls that cases name.
-use crate::{messages, outside, requests};
+use crate::{messages, outside};
 use arz_cases::{Case, CaseFault, Outcome};
 use std::alloc::Global;
 
@@ -10,7 +10,6 @@ pub enum RunCall {
     Outputs,
     Puts,
     Reads,
-    Request,
     Scope,
     Wait,
 }
@@ -23,7 +22,6 @@ impl RunCall {
             "outputs" => RunCall::Outputs,
             "puts" => RunCall::Puts,
             "reads" => RunCall::Reads,
-            "request" => RunCall::Request,
             "scope" => RunCall::Scope,
             "wait" => RunCall::Wait,
             _ => return None,
@@ -37,7 +35,6 @@ impl RunCall {
             RunCall::Outputs => messages::outputs(alloc, case),
             RunCall::Puts => outside::puts(alloc, case),
             RunCall::Reads => outside::reads(alloc, case),
-            RunCall::Request => requests::request(alloc, case),
             RunCall::Scope => messages::scope(alloc, case),
             RunCall::Wait => messages::wait(alloc, case),
         }

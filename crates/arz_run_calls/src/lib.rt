@@ -1,11 +1,10 @@
 //! Calls of the libraries that a run is made of, over what cases describe: files and sinks in memory, what
-//! expressions speak of, the request of a step, and the lines of asks and ends. [`RunCall`] lists them.
+//! expressions speak of, and the lines of asks and ends. [`RunCall`] lists them.
 #![tactic(auto)]
 
 mod calls;
 mod messages;
 mod outside;
-mod requests;
 
 pub use calls::RunCall;
 pub use outside::{files_of, sink_of};

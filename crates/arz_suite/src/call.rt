@@ -4,6 +4,7 @@ use arz_calls::LibraryCall;
 use arz_cases::{Case, CaseFault, Outcome};
 use arz_query_calls::QueryCall;
 use arz_run_calls::RunCall;
+use arz_step_calls::StepCall;
 use arz_tree_calls::TreeCall;
 use std::alloc::Global;
 
@@ -18,6 +19,8 @@ pub enum Call {
     Query(QueryCall),
     /// A call of `arz_run_calls`.
     Run(RunCall),
+    /// A call of `arz_step_calls`.
+    Step(StepCall),
     /// A call of `arz_calls`.
     Library(LibraryCall),
 }
@@ -37,6 +40,9 @@ impl Call {
         if let Some(call) = RunCall::named(name) {
             return Some(Call::Run(call));
         }
+        if let Some(call) = StepCall::named(name) {
+            return Some(Call::Step(call));
+        }
         Some(Call::Library(LibraryCall::named(name)?))
     }
 
@@ -47,6 +53,7 @@ impl Call {
             Call::Tree(call) => call.outcome(alloc, case),
             Call::Query(call) => call.outcome(alloc, case),
             Call::Run(call) => call.outcome(alloc, case),
+            Call::Step(call) => call.outcome(alloc, case),
             Call::Library(call) => call.outcome(alloc, case),
         }
     }

@@ -7,9 +7,9 @@ use arz_expr::{Base, Expr, FillFault, Scope, Tail, Template, fill as filled, val
 use arz_json::Json;
 use std::alloc::{AllocError, Global};
 
-/// The scope in which each base has one value.
+// The scope in which each base has one value.
 #[derive(Drop)]
-pub struct Whole {
+struct Whole {
     root: Json,
     ghost well_formed: { IsWellFormed root },
     ghost nests: { depth root ≤ 127 },
@@ -80,8 +80,8 @@ fn base_words(alloc: Global, base: &Base) -> Result<String, AllocError> {
     format!(in alloc; "{word}{first}{between}{second}")
 }
 
-/// The scope in which each base is the tree `values`.
-pub fn scope_of(alloc: Global, case: &Case<'_>) -> Result<Whole, CaseFault> {
+// The scope in which each base is the tree `values`.
+fn scope_of(alloc: Global, case: &Case<'_>) -> Result<Whole, CaseFault> {
     let root = case.json(alloc, "values")?;
     Ok(Whole { root })
 }

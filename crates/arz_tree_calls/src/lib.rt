@@ -6,4 +6,3 @@ mod expressions;
 mod trees;
 
 pub use calls::TreeCall;
-pub use expressions::{Whole, scope_of};
