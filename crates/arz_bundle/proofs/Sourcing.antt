@@ -1,5 +1,5 @@
 -- One source, and one after another.
-use Rattle.std.proofs.Common.{◌≡◌, inr, ◌+◌, ◌<◌, ◌≤◌, ℕ, List, [], ◌∷◌, ◌++◌, drop, get_or, length, Result, Ok, Err, refl, sym, ap, ◌∙◌, subst, arith, append_assoc, append-nil}
+use Rattle.std.proofs.Common.{◌≡◌, inr, ◌+◌, ◌<◌, ◌≤◌, ℕ, suc, List, [], ◌∷◌, ◌++◌, drop, drop-cons, add-one, get_or, length, Result, Ok, Err, refl, sym, ap, ◌∙◌, subst, arith, append_assoc, append-nil}
 use Rattle.std.proofs.lemmas.List.{drop_all}
 use Rattle.arz_json.specs.declared.Json.{Json}
 use Rattle.arz_json.specs.declared.Named.{Named}
@@ -10,7 +10,6 @@ use Rattle.arz_bundle.specs.declared.fault.LoadFault.{LoadFault}
 use Rattle.arz_bundle.specs.declared.fault.LoadFault.TheVariants.{Memory}
 use Rattle.arz_bundle.specs.FileTree.{GivenSource, GivenSources}
 use Rattle.arz_bundle.specs.Loading.{OneSource, FromSources}
-use Rattle.arz_bundle.proofs.Noting.{from-item}
 use Rattle.arz_bundle.proofs.Overlaying.{later-then, asked-then}
 use Rattle.arz_bundle.proofs.Wholes.{Later, files-whole, files-begin, files-end, patterns-whole, patterns-begin, patterns-end, source-wider, sources-wider, ok-no-fault, same-fault, same-source, no-source-given, as-it-is}
 
@@ -43,6 +42,10 @@ module _ (first before mid : FilesView) (one old half : PatternsView) (setup : J
   -- memory ran out behind it
   leads-memory : FromSources first mid one half setup all GivenSources (Err Memory)
   leads-memory = leads mid half (Err Memory) later asked (inr (inr refl))
+
+-- a list from an index on, which an item stands at
+from-item : {X : Type 0} (xs : List X) (i : ℕ) (x : X) → i < length xs → x ≡ get_or xs i x → drop i xs ≡ x ∷ drop (i + 1) xs
+from-item xs i x lt is = drop-cons xs i x lt ∙ ap (λ y. y ∷ drop (suc i) xs) (sym is) ∙ ap (λ n. x ∷ drop n xs) (sym (add-one i))
 
 -- the same of the sources of a list from a place on
 module _ (first before mid : FilesView) (one old half : PatternsView) (setup : Json) (xs : List Json) (i : ℕ) (x : Json) (h : i < length xs) (is : x ≡ get_or xs i x) (read : List Named)

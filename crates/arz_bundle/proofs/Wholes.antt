@@ -153,7 +153,7 @@ module _ (before now first last : FilesView) (part : FilesPart before now first 
     described-whole setup description (told, described, came) =
         let Part = AfterBuilt before now old new setup description in
         let Whole = AfterBuilt first last one two setup description in
-        let unbuilt = unbuilt_told setup description in (
+        let unbuilt = unbuilt_told description in (
           told,
           described,
           tells-wider x x (as-it-is x) told (Tells unbuilt Part) (Tells unbuilt Whole)

@@ -36,7 +36,12 @@ pub(crate) fn check_built(alloc: Global, description: &Json) -> Result<(), RuleF
     requires { IsWithin 127 description.now }
     ensures { Checks (unbuilt_told description.now) result }
 {
-    refuse_if(alloc, 0, "arazzo", first_unbuilt_of_description(alloc, description)?)
+    refuse_if(
+        alloc,
+        0,
+        "arazzo",
+        first_unbuilt_of_description(alloc, description)?,
+    )
 }
 
 /// Looks at the steps of a description, against the sources that they call.

@@ -42,7 +42,7 @@ returns-in_err-check_description-clause-loads g c =
     (document-refused before now before now (files-whole before now) old new old new (patterns-whole old new) (description_path c.args.setup) (codes "arazzo") os
     (AfterDescription before now old new c.args.setup) description told fault
     (document-at before now old new _ _ (codes "arazzo") _ os _ (Ok description) c.text_at-path.ensures refl refl c.in_ok-description.ensures.reads) c.in_err-check_description.ensures.2
-    (λ r is. (told, c.in_err-check_description.ensures.1, tells-refused told (Tells (unbuilt_told c.args.setup description) (AfterBuilt before now old new c.args.setup description)) r is)))
+    (λ r is. (told, c.in_err-check_description.ensures.1, tells-refused told (Tells (unbuilt_told description) (AfterBuilt before now old new c.args.setup description)) r is)))
 
 pub returns-in_err-check_built-clause-loads : goal.returns-in_err-check_built-clause-loads
 returns-in_err-check_built-clause-loads g c =
@@ -56,19 +56,19 @@ returns-in_err-check_built-clause-loads g c =
     let os = overlays_for None c.args.setup in
     exit (FromDescription before now old new c.args.setup) c.from_residual-in_err-check_built.result (load_fault fault) c.from_residual-in_err-check_built.ensures.1
     (document-refused before now before now (files-whole before now) old new old new (patterns-whole old new) (description_path c.args.setup) (codes "arazzo") os
-    (AfterDescription before now old new c.args.setup) description (unbuilt_told c.args.setup description) fault
+    (AfterDescription before now old new c.args.setup) description (unbuilt_told description) fault
     (document-at before now old new _ _ (codes "arazzo") _ os _ (Ok description) c.text_at-path.ensures refl refl c.in_ok-description.ensures.reads) c.in_err-check_built.ensures
     (λ r is. (
       told.0,
       told.1,
       tells-on told.0 _ _ told.2
-          (tells-refused (unbuilt_told c.args.setup description) (AfterBuilt before now old new c.args.setup description) r is),
+          (tells-refused (unbuilt_told description) (AfterBuilt before now old new c.args.setup description) r is),
     )))
 
 module _ (before after now : FilesView) (later : Later after now) (came : Later before after) (old mid new : PatternsView) (asks : Asked mid new) (asked : Asked old mid)
     (setup description : Json) (told : Option Refusal) where
   goes-on : (x : Result Bundle LoadFault) → ReadingOverlaid before after old mid (description_path setup) (codes "arazzo") (overlays_for None setup) Given (Ok description)
-      → IsDescribed setup description told → told ≡ None → unbuilt_told setup description ≡ None
+      → IsDescribed setup description told → told ≡ None → unbuilt_told description ≡ None
       → OrMemory (AfterBuilt after now mid new setup description) x → FromDescription before now old new setup x
   goes-on x reads described none built (inl loads) =
       document-given before after before now (files-begin before after now later) old mid old new (patterns-begin old mid new asks) (description_path setup) (codes "arazzo") (overlays_for None setup)
@@ -76,7 +76,7 @@ module _ (before after now : FilesView) (later : Later after now) (came : Later 
         told,
         described,
         tells-on told _ _ none
-            (tells-on (unbuilt_told setup description) _ _ built
+            (tells-on (unbuilt_told description) _ _ built
             (built-whole after now before now (files-end before after now came) mid new old new (patterns-end old mid new asked) x setup description loads)),
       )
   goes-on x reads described none built (inr is) = inr (inr is)

@@ -1,7 +1,8 @@
-use Rattle.std.proofs.Common.{◌≡◌, inl, inr, List, codes, refl, subst, Option, None, Some, Result, Ok, Err}
+use Rattle.std.proofs.Common.{◌≡◌, inl, inr, List, codes, refl, ap, ◌∙◌, subst, Option, None, Some, Result, Ok, Err}
 use Rattle.arz_json.specs.Look.{items_at}
 use Rattle.arz_json.specs.declared.Json.{Json}
 use Rattle.arz_json.specs.declared.Named.{Named}
+use Rattle.arz_json.specs.declared.NamedText.{NamedText}
 use Rattle.arz_json.specs.declared.Refusal.{Refusal}
 use Rattle.arz_rules.specs.declared.phases.RuleFault.{RuleFault}
 use Rattle.arz_rules.specs.declared.phases.RuleFault.TheVariants as rule
@@ -12,11 +13,17 @@ use Rattle.arz_bundle.specs.declared.fault.LoadFault.{LoadFault}
 use Rattle.arz_bundle.specs.declared.fault.LoadFault.TheVariants.{Refused}
 use Rattle.arz_bundle.specs.FileTree.{Checks, GivenSources, OrMemory, load_fault}
 use Rattle.arz_bundle.specs.Loading.{FromSources, AfterSources, AfterBuilt}
-use Rattle.arz_bundle.specs.Phases.{steps_told, form_told}
+use Rattle.arz_bundle.specs.Phases.{steps_against, steps_told}
+use Rattle.arz_bundle.specs.Setup.{servers_of}
 use Rattle.arz_bundle.proofs.Stages.{exit, tells-refused, tells-on}
 use Rattle.arz_bundle.proofs.ValidBundles.{valid-bundle}
 use Rattle.arz_bundle.proofs.Wholes.{sources-given, sources-none}
 use Rattle.arz_bundle.proofs.loading.from_sources.Goals as goal
+
+-- what holds of what is told against some sources and servers, where these are the ones
+against : (description setup : Json) (xs sources : List Named) (vs : List NamedText) → xs ≡ sources → vs ≡ servers_of setup → (P : Option Refusal → Type 0)
+    → P (steps_against description xs vs) → P (steps_told setup description sources)
+against description setup xs sources vs same given P holds = subst P (ap (λ s. steps_against description s vs) same ∙ ap (λ v. steps_against description sources v) given) holds
 
 module _ (before now : FilesView) (old new : PatternsView) (setup description : Json) where
   abbrev described : List Json
@@ -61,24 +68,9 @@ returns-in_err-check_calls-clause-loads g c =
     let sources = c.in_ok-sources.sources in
     exit (OrMemory (AfterBuilt before now old new setup description)) c.from_residual-in_err-check_calls.result (load_fault fault) c.from_residual-in_err-check_calls.ensures.1
     (refused before now old new setup description sources (at-items before now old new setup description _ (Ok sources) c.items_at-described.ensures c.in_ok-sources.ensures.reads)
-    (steps_told setup description sources) fault (subst (λ ss. Checks (steps_told setup description ss) (Err fault)) c.as_slice.ensures c.in_err-check_calls.ensures)
+    (steps_told setup description sources) fault
+    (against description setup _ sources _ c.as_slice.ensures (c.as_slice-2.ensures ∙ c.in_ok-servers.ensures) (λ o. Checks o (Err fault)) c.in_err-check_calls.ensures)
     (tells-refused (steps_told setup description sources) _))
-
-pub returns-in_err-check_forms-clause-loads : goal.returns-in_err-check_forms-clause-loads
-returns-in_err-check_forms-clause-loads g c =
-    let before = g.F.Files.files c.args.files.now in
-    let now = g.F.Files.files c.read_sources.new.files in
-    let old = g.P.Patterns.patterns c.args.rx.now in
-    let new = g.P.Patterns.patterns c.read_sources.new.rx in
-    let fault = c.in_err-check_forms.field-0.0 in
-    let setup = c.args.setup in
-    let description = c.args.description in
-    let sources = c.in_ok-sources.sources in
-    exit (OrMemory (AfterBuilt before now old new setup description)) c.from_residual-in_err-check_forms.result (load_fault fault) c.from_residual-in_err-check_forms.ensures.1
-    (refused before now old new setup description sources (at-items before now old new setup description _ (Ok sources) c.items_at-described.ensures c.in_ok-sources.ensures.reads)
-    (form_told description sources) fault (subst (λ ss. Checks (form_told description ss) (Err fault)) c.as_slice-2.ensures c.in_err-check_forms.ensures)
-    (λ r is. tells-on (steps_told setup description sources) _ _ (subst (λ ss. steps_told setup description ss ≡ None) c.as_slice.ensures c.in_ok-check_calls.ensures)
-    (tells-refused (form_told description sources) _ r is)))
 
 pub returns-clause-loads : goal.returns-clause-loads
 returns-clause-loads g c =
@@ -91,8 +83,8 @@ returns-clause-loads g c =
     let sources = c.in_ok-sources.sources in
     rw c.in_ok-make_bundle.ensures
     (given before now old new setup description sources (at-items before now old new setup description _ (Ok sources) c.items_at-described.ensures c.in_ok-sources.ensures.reads) _
-    (tells-on (steps_told setup description sources) _ _ (subst (λ ss. steps_told setup description ss ≡ None) c.as_slice.ensures c.in_ok-check_calls.ensures)
-    (tells-on (form_told description sources) _ _ (subst (λ ss. form_told description ss ≡ None) c.as_slice-2.ensures c.in_ok-check_forms.ensures) refl)))
+    (tells-on (steps_told setup description sources) _ _
+    (against description setup _ sources _ c.as_slice.ensures (c.as_slice-2.ensures ∙ c.in_ok-servers.ensures) (λ o. o ≡ None) c.in_ok-check_calls.ensures) refl))
 
 pub returns-clause-valid : goal.returns-clause-valid
 returns-clause-valid g c =
