@@ -27,7 +27,7 @@ use Rattle.arz_bundle.specs.Laws.{MissingFail, LoadsSome, GivesSome, LoadsValid,
 use Rattle.arz_bundle.specs.Loading.{file_limit, IsFile, NoFile, Tells, Judged, Reading, Taken, Applied, Overlaid, ReadingOverlaid, source_name, named, FromSources, AfterSources, AfterBuilt, AfterDescription, FromDescription, AfterSetup, AfterReplies}
 use Rattle.arz_doc.proofs.Numbered.{some_test}
 use Rattle.arz_bundle.specs.Overlays.{Listed, overlays_for, overlay_label}
-use Rattle.arz_bundle.specs.Phases.{setup_told, description_told, IsDescribed, unbuilt_told, source_label, source_told, steps_told, replies_told}
+use Rattle.arz_bundle.specs.Phases.{setup_told, description_told, IsDescribed, unbuilt_told, source_label, source_told, steps_told, size_told, replies_told}
 use Rattle.arz_bundle.specs.Replies.{HasStatus, replies_of}
 use Rattle.arz_bundle.specs.Setup.{description_path, path_of_source, bundle_of}
 use Rattle.arz_bundle.proofs.ValidBundles.{Nests, valid-bundle, reply-items, statuses}
@@ -164,7 +164,7 @@ module _ (keeps : KeepsWithin) (old new : PatternsView) where
     after-some setup description sources =
         let bundle = bundle_of setup description sources in
         let Made : Result Bundle LoadFault → Type 0 = λ x. x ≡ Ok bundle in
-        tells-some (steps_told setup description sources) Made (Ok bundle, refl, ok-some bundle)
+        tells-some (steps_told setup description sources) (Tells (size_told bundle) Made) (tells-some (size_told bundle) Made (Ok bundle, refl, ok-some bundle))
 
     built-some : (setup description : Json) → IsSome (AfterBuilt before now old new setup description)
     built-some setup description = sources-some setup (items_at (codes "sourceDescriptions") description) (AfterSources setup description) (after-some setup description)
@@ -260,7 +260,8 @@ module _ (before now : FilesView) (old new : PatternsView) where
     built-valid setup description described setup-within description-within came =
         sources-gave b (IsValid b) setup (items_at (codes "sourceDescriptions") description) (AfterSources setup description)
         (λ sources within goes. tells-gave b (IsValid b) (steps_told setup description sources) _ goes
-        (λ none is. subst IsValid (sym (same-ok b (bundle_of setup description sources) is)) (valid-bundle setup description sources described setup-within description-within within))) came
+        (λ none later. tells-gave b (IsValid b) (size_told (bundle_of setup description sources)) _ later
+        (λ fits is. subst IsValid (sym (same-ok b (bundle_of setup description sources) is)) (valid-bundle setup description sources described setup-within description-within within)))) came
 
     description-valid : (setup : Json) → IsWithin 127 setup → FromDescription before now old new setup (Ok b) → IsValid b
     description-valid setup within came =

@@ -14,7 +14,7 @@ use Rattle.arz_bundle.specs.declared.fault.LoadFault.{LoadFault}
 use Rattle.arz_bundle.specs.declared.fault.LoadFault.TheVariants.{File, Refused, Pattern, Memory}
 use Rattle.arz_bundle.specs.Loading.{Tells, Reading, Taken, Applied, Overlaid, ReadingOverlaid, source_name, named, FromSources, AfterSources, AfterBuilt, AfterDescription, FromDescription, AfterSetup, Loads, AfterReplies, Gives_replies}
 use Rattle.arz_bundle.specs.Overlays.{Listed, overlays_for, overlay_label}
-use Rattle.arz_bundle.specs.Phases.{setup_told, unbuilt_told, source_label, source_told, steps_told, replies_told}
+use Rattle.arz_bundle.specs.Phases.{setup_told, unbuilt_told, source_label, source_told, steps_told, size_told, replies_told}
 use Rattle.arz_bundle.specs.Replies.{replies_of}
 use Rattle.arz_bundle.specs.Setup.{description_path, path_of_source, bundle_of}
 
@@ -92,7 +92,8 @@ module _ (before now : FilesView) (old new : PatternsView) {A : Type 0} (x : Res
 module _ (before now : FilesView) (old new : PatternsView) (x : Result Bundle LoadFault) where
   after-caused : (setup description : Json) (sources : List Named) → AfterSources setup description sources x → HasCause before now old new x
   after-caused setup description sources came =
-      tells-caused before now old new x (steps_told setup description sources) _ (given-caused before now old new x (bundle_of setup description sources)) came
+      tells-caused before now old new x (steps_told setup description sources) _
+      (tells-caused before now old new x (size_told (bundle_of setup description sources)) _ (given-caused before now old new x (bundle_of setup description sources))) came
 
   built-caused : (setup description : Json) → AfterBuilt before now old new setup description x → HasCause before now old new x
   built-caused setup description came =

@@ -19,7 +19,7 @@ use Rattle.arz_rx.specs.Patterns.{PatternsView, Rose as PatternsRose}
 use Rattle.arz_bundle.specs.declared.fault.LoadFault.{LoadFault}
 use Rattle.arz_bundle.specs.declared.fault.LoadFault.TheVariants.{File, Refused, Pattern, Memory}
 use Rattle.arz_bundle.specs.Overlays.{Listed, overlays_for, overlay_label}
-use Rattle.arz_bundle.specs.Phases.{setup_told, IsDescribed, unbuilt_told, source_label, source_told, steps_told, replies_told}
+use Rattle.arz_bundle.specs.Phases.{setup_told, IsDescribed, unbuilt_told, source_label, source_told, steps_told, size_told, replies_told}
 use Rattle.arz_bundle.specs.Replies.{replies_of}
 use Rattle.arz_bundle.specs.Setup.{description_path, path_of_source, bundle_of}
 
@@ -112,10 +112,10 @@ module _ {A : Type 0} (before now : FilesView) (old new : PatternsView) (setup :
 
 -- ---- the files, one by one, and their phases
 
--- all sources were read: the steps against them, and the bundle is made
+-- all sources were read: the steps against them, and then the bundle as a whole
 abbrev pub AfterSources : (setup description : Json) → List Named → Result Bundle LoadFault → Type 0
 AfterSources setup description sources =
-    Tells (steps_told setup description sources) (λ x. x ≡ Ok (bundle_of setup description sources))
+    Tells (steps_told setup description sources) (Tells (size_told (bundle_of setup description sources)) (λ x. x ≡ Ok (bundle_of setup description sources)))
 
 -- a file of replies passes its phase
 abbrev pub AfterReplies : Json → Result (List Reply) LoadFault → Type 0

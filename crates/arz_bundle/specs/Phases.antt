@@ -1,10 +1,14 @@
 -- The phases in which the files are judged: of each the refusal that it tells, if a rule of it fails.
-use Rattle.std.specs.Prelude.{◌≡◌, ℕ, Bool, List, [], ◌∷◌, ◌++◌, codes, nat_le, if◌then◌else◌, Option, Some, None, option_map}
+use Rattle.std.specs.Prelude.{◌≡◌, ℕ, Bool, List, [], ◌∷◌, ◌++◌, length, codes, nat_le, if◌then◌else◌, Option, Some, None, option_map}
 use Rattle.arz_json.specs.declared.Json.{Json}
 use Rattle.arz_json.specs.declared.Named.{Named}
 use Rattle.arz_json.specs.declared.NamedText.{NamedText}
 use Rattle.arz_json.specs.declared.Refusal.{Refusal}
 use Rattle.arz_rules.specs.Phases.{Rule, refusal, first_failure}
+use Rattle.arz_rules.specs.Place.{here_unless}
+use Rattle.arz_wire.specs.Spelling.{spelling}
+use Rattle.arz_flow.specs.declared.bundle.Bundle.{Bundle}
+use Rattle.arz_start.specs.StartTree.{start_tree}
 use Rattle.arz_doc.specs.Cycles.{TellsCycles}
 use Rattle.arz_doc.specs.Order.{rules}
 use Rattle.arz_openapi.specs.Rules.{rules as source_rules}
@@ -59,6 +63,14 @@ steps_against description sources servers = told (codes "arazzo") (step_rules de
 
 abbrev pub steps_told : (setup description : Json) → List Named → Option Refusal
 steps_told setup description sources = steps_against description sources (servers_of setup)
+
+-- how many bytes the tree of a bundle may have in its wire form, with which a journal begins
+abbrev pub start_limit : ℕ
+start_limit = 67108864
+
+-- the bundle as a whole
+unfoldable pub size_told : Bundle → Option Refusal
+size_told b = told (codes "setup") ((24, here_unless (nat_le (length (spelling (start_tree b))) start_limit)) ∷ [])
 
 abbrev pub replies_told : (replies : Json) → Option Refusal
 replies_told replies = told (codes "replies") (replies_rules replies)

@@ -12,7 +12,7 @@ ghost use Rattle.arz_bundle.specs.Setup.{bundle_of, servers_of};
 use crate::fault::LoadFault;
 use crate::files::read_tree;
 use crate::overlays::read_overlaid;
-use crate::phases::{check_built, check_calls, check_description};
+use crate::phases::{check_built, check_calls, check_description, check_size};
 use crate::rules::check_setup;
 use crate::setup::{journal_limit, max_attempts, read_servers, skips_delay, workflow_run};
 use crate::sources::read_sources;
@@ -84,7 +84,9 @@ fn from_sources<F: Files, P: Patterns>(
     let sources = read_sources(alloc, &setup, described, files, rx)?;
     let servers = read_servers(alloc, &setup)?;
     check_calls(alloc, &description, sources.as_slice(), servers.as_slice())?;
-    Ok(make_bundle(alloc, setup, description, sources, servers)?)
+    let bundle = make_bundle(alloc, setup, description, sources, servers)?;
+    check_size(alloc, &bundle)?;
+    Ok(bundle)
 }
 
 // What is executed.

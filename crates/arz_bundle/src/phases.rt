@@ -1,19 +1,22 @@
 // The phases that look at several documents.
-ghost use Rattle.std.specs.Prelude.{◌≡◌, Option, None, true, codes, option_map};
+ghost use Rattle.std.specs.Prelude.{◌≡◌, ℕ, nat_le, Option, None, true, codes, option_map};
 ghost use Rattle.arz_json.specs.Tree.{IsWithin};
 ghost use Rattle.arz_json.specs.declared.Refusal.{Refusal};
 ghost use Rattle.arz_doc.specs.Order.{seen_failure};
 ghost use Rattle.arz_rules.specs.Phases.{failure_or};
 ghost use Rattle.arz_rules.specs.Place.{tokens_in};
 ghost use Rattle.arz_bundle.specs.FileTree.{Checks, seen_refusal, labelled};
-ghost use Rattle.arz_bundle.specs.Phases.{earlier, IsDescribed, unbuilt_told, steps_against};
+ghost use Rattle.arz_start.specs.Lengths.{Measures};
+ghost use Rattle.arz_bundle.specs.Phases.{earlier, IsDescribed, unbuilt_told, steps_against, start_limit, size_told};
 
 use crate::naming::first_misnamed;
 use crate::unbuilt::first_unbuilt_of_description;
 use arz_doc::{Failure, first_refusal};
+use arz_flow::Bundle;
 use arz_json::{Json, Named, NamedText};
-use arz_rules::{RuleFault, refuse, refuse_if};
+use arz_rules::{RuleFault, refuse, refuse_if, root_unless};
 use arz_sources::check_steps;
+use arz_start::start_length;
 use std::alloc::Global;
 
 /// Looks at the rules of a description, together with those of what a setup names in it.
@@ -54,6 +57,24 @@ pub(crate) fn check_calls(
     ensures { Checks (steps_against description.now sources.now servers.now) result }
 {
     check_steps(alloc, description, sources, servers)
+}
+
+/// Looks at the size of a bundle: its tree in the wire form, with which a journal begins.
+#[tactic(auto, unfolding(crate::specs::Phases::size_told))]
+pub(crate) fn check_size(alloc: Global, bundle: &Bundle) -> Result<(), RuleFault>
+    ensures { Checks (size_told bundle.now) result }
+{
+    let length = start_length(alloc, bundle)?;
+    refuse_if(alloc, 24, "setup", root_unless(alloc, is_in_limit(length)))
+}
+
+fn is_in_limit(length: Option<u64>) -> bool
+    ensures { (n : ℕ) → Measures length n → result ≡ nat_le n start_limit }
+{
+    match length {
+        Some(length) => length <= 67_108_864,
+        None => false,
+    }
 }
 
 // Refuses the setup or the description, where one fails a rule.

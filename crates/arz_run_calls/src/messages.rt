@@ -82,12 +82,19 @@ pub fn outputs(alloc: Global, case: &Case<'_>) -> Result<Outcome, CaseFault> {
 pub fn wait(alloc: Global, case: &Case<'_>) -> Result<Outcome, CaseFault> {
     let seconds = case.count("seconds")?;
     let number = case.count("number")?;
-    let ask = ask_text(alloc, &Ask::Wait(seconds))?;
-    let mut text = ask.into_std().into_bytes();
+    let mut text = ask_line(alloc, seconds)?;
     text.push(b'\n')?;
-    let line = end_line(alloc, &End::Out(Ask::Wait(seconds)), number)?;
-    text.extend_from_slice(line.as_slice())?;
+    text.extend_from_slice(out_line(alloc, seconds, number)?.as_slice())?;
     Ok(Outcome { text, status: None })
+}
+
+fn ask_line(alloc: Global, seconds: u32) -> Result<Vec<u8>, AllocError> {
+    let ask = ask_text(alloc, &Ask::Wait(seconds))?;
+    Ok(ask.into_std().into_bytes())
+}
+
+fn out_line(alloc: Global, seconds: u32, number: u32) -> Result<Bytes, AllocError> {
+    end_line(alloc, &End::Out(Ask::Wait(seconds)), number)
 }
 
 fn text(alloc: Global, text: &str) -> Result<Text, AllocError> {

@@ -1,1 +1,2 @@
 pub mod StartTree
+pub mod Lengths

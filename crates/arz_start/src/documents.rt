@@ -14,10 +14,11 @@ pub(crate) fn documents(alloc: Global, sources: &[Named]) -> Result<Members, All
     copied(alloc, found)
 }
 
-fn by_name<'a>(
-    alloc: Global,
-    sources: &'a [Named],
-) -> Result<BTreeMap<&'a str, &'a Json>, AllocError>
+/// Documents by their names, in byte order.
+pub(crate) type ByName<'a> = BTreeMap<&'a str, &'a Json>;
+
+/// The documents of these sources by their names; of two with one name the last.
+pub(crate) fn by_name<'a>(alloc: Global, sources: &'a [Named]) -> Result<ByName<'a>, AllocError>
     ensures { IfOk result (λ found. map seen_entry found.entries ≡ entered [] sources.now) }
 {
     let mut found = BTreeMap::new(alloc);
@@ -27,7 +28,7 @@ fn by_name<'a>(
     Ok(found)
 }
 
-fn copied(alloc: Global, found: BTreeMap<&str, &Json>) -> Result<Members, AllocError>
+fn copied(alloc: Global, found: ByName<'_>) -> Result<Members, AllocError>
     ensures { IfOk result (λ ms. ms ≡ map seen_member (map seen_entry found.entry.entries)) }
 {
     let mut members = Vec::with_capacity(alloc, found.len())?;

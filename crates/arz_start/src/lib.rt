@@ -2,6 +2,8 @@
 #![tactic(auto)]
 
 mod documents;
+mod length;
 mod start_tree;
 
+pub use length::start_length;
 pub use start_tree::to_tree;

@@ -78,7 +78,8 @@ fn text_tree(alloc: Global, text: &str) -> Result<Json, AllocError>
     Ok(Json::Text(Text::from_str(alloc, text)?))
 }
 
-fn delay_word(skips: bool) -> &'static str
+/// The word of a setup that says whether waits are skipped.
+pub(crate) fn delay_word(skips: bool) -> &'static str
     ensures { result.now ≡ word_of_delay skips }
 {
     if skips { "skip" } else { "stop" }

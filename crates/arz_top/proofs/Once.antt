@@ -16,7 +16,7 @@ use Rattle.arz_bundle.specs.Loading.{file_limit, IsFile, NoFile, Tells, Judged, 
 use Rattle.arz_doc.proofs.OneTest.{same_rules}
 use Rattle.arz_bundle.specs.Naming.{naming_rules}
 use Rattle.arz_bundle.specs.Overlays.{Listed, items_for, overlays_for, overlay_label}
-use Rattle.arz_bundle.specs.Phases.{told as told_of, earlier, setup_told, IsDescribed, unbuilt_told, source_label, source_told, steps_told, replies_told}
+use Rattle.arz_bundle.specs.Phases.{told as told_of, earlier, setup_told, IsDescribed, unbuilt_told, source_label, source_told, steps_told, size_told, replies_told}
 use Rattle.arz_bundle.specs.Replies.{replies_of}
 use Rattle.arz_bundle.specs.Setup.{description_path, path_of_source, bundle_of}
 use Rattle.arz_top.specs.Steady.{IsSteady, IsFileAt, ArePatternsSteady, ListsOverlay}
@@ -154,7 +154,8 @@ module _ (before now : FilesView) (old new : PatternsView) (steady : IsSteady be
     after-one : (description : Json) (sources : List Named) → IsOne (AfterSources setup description sources)
     after-one description sources =
         let bundle = bundle_of setup description sources in
-        gives-one (steps_told setup description sources) (Ok bundle)
+        let Made : Result Bundle LoadFault → Type 0 = λ x. x ≡ Ok bundle in
+        tells-one (steps_told setup description sources) (Tells (size_told bundle) Made) (gives-one (size_told bundle) (Ok bundle))
 
     built-one : (description : Json) → IsOne (AfterBuilt before now old new setup description)
     built-one description = sources-one (items_at (codes "sourceDescriptions") description) (AfterSources setup description) (after-one description)

@@ -13,12 +13,15 @@ use Rattle.arz_bundle.specs.declared.fault.LoadFault.{LoadFault}
 use Rattle.arz_bundle.specs.declared.fault.LoadFault.TheVariants.{Refused}
 use Rattle.arz_bundle.specs.FileTree.{Checks, GivenSources, OrMemory, load_fault}
 use Rattle.arz_bundle.specs.Loading.{FromSources, AfterSources, AfterBuilt}
-use Rattle.arz_bundle.specs.Phases.{steps_against, steps_told}
-use Rattle.arz_bundle.specs.Setup.{servers_of}
+use Rattle.arz_bundle.specs.Phases.{steps_against, steps_told, size_told}
+use Rattle.arz_bundle.specs.Setup.{servers_of, bundle_of}
 use Rattle.arz_bundle.proofs.Stages.{exit, tells-refused, tells-on}
 use Rattle.arz_bundle.proofs.ValidBundles.{valid-bundle}
 use Rattle.arz_bundle.proofs.Wholes.{sources-given, sources-none}
 use Rattle.arz_bundle.proofs.loading.from_sources.Goals as goal
+
+abbrev given-bundle : Bundle → Result Bundle LoadFault
+given-bundle b = Ok b
 
 -- what holds of what is told against some sources and servers, where these are the ones
 against : (description setup : Json) (xs sources : List Named) (vs : List NamedText) → xs ≡ sources → vs ≡ servers_of setup → (P : Option Refusal → Type 0)
@@ -72,6 +75,24 @@ returns-in_err-check_calls-clause-loads g c =
     (against description setup _ sources _ c.as_slice.ensures (c.as_slice-2.ensures ∙ c.in_ok-servers.ensures) (λ o. Checks o (Err fault)) c.in_err-check_calls.ensures)
     (tells-refused (steps_told setup description sources) _))
 
+pub returns-in_err-check_size-clause-loads : goal.returns-in_err-check_size-clause-loads
+returns-in_err-check_size-clause-loads g c =
+    let before = g.F.Files.files c.args.files.now in
+    let now = g.F.Files.files c.read_sources.new.files in
+    let old = g.P.Patterns.patterns c.args.rx.now in
+    let new = g.P.Patterns.patterns c.read_sources.new.rx in
+    let fault = c.in_err-check_size.field-0.0 in
+    let setup = c.args.setup in
+    let description = c.args.description in
+    let sources = c.in_ok-sources.sources in
+    let bundle = bundle_of setup description sources in
+    exit (OrMemory (AfterBuilt before now old new setup description)) c.from_residual-in_err-check_size.result (load_fault fault) c.from_residual-in_err-check_size.ensures.1
+    (refused before now old new setup description sources (at-items before now old new setup description _ (Ok sources) c.items_at-described.ensures c.in_ok-sources.ensures.reads)
+    (size_told bundle) fault (subst (λ b. Checks (size_told b) (Err fault)) c.in_ok-bundle.ensures c.in_err-check_size.ensures)
+    (λ r is. tells-on (steps_told setup description sources) _ _
+    (against description setup _ sources _ c.as_slice.ensures (c.as_slice-2.ensures ∙ c.in_ok-servers.ensures) (λ o. o ≡ None) c.in_ok-check_calls.ensures)
+    (tells-refused (size_told bundle) _ r is)))
+
 pub returns-clause-loads : goal.returns-clause-loads
 returns-clause-loads g c =
     let before = g.F.Files.files c.args.files.now in
@@ -81,12 +102,13 @@ returns-clause-loads g c =
     let setup = c.args.setup in
     let description = c.args.description in
     let sources = c.in_ok-sources.sources in
-    rw c.in_ok-make_bundle.ensures
-    (given before now old new setup description sources (at-items before now old new setup description _ (Ok sources) c.items_at-described.ensures c.in_ok-sources.ensures.reads) _
+    let bundle = bundle_of setup description sources in
+    given before now old new setup description sources (at-items before now old new setup description _ (Ok sources) c.items_at-described.ensures c.in_ok-sources.ensures.reads) _
     (tells-on (steps_told setup description sources) _ _
-    (against description setup _ sources _ c.as_slice.ensures (c.as_slice-2.ensures ∙ c.in_ok-servers.ensures) (λ o. o ≡ None) c.in_ok-check_calls.ensures) refl))
+    (against description setup _ sources _ c.as_slice.ensures (c.as_slice-2.ensures ∙ c.in_ok-servers.ensures) (λ o. o ≡ None) c.in_ok-check_calls.ensures)
+    (tells-on (size_told bundle) _ _ (subst (λ b. size_told b ≡ None) c.in_ok-bundle.ensures c.in_ok-check_size.ensures) (ap given-bundle c.in_ok-bundle.ensures)))
 
 pub returns-clause-valid : goal.returns-clause-valid
 returns-clause-valid g c =
-    rw c.in_ok-make_bundle.ensures
+    rw c.in_ok-bundle.ensures
     (valid-bundle c.args.setup c.args.description c.in_ok-sources.sources c.requires.described c.requires.setup_nests c.requires.description_nests c.in_ok-sources.ensures.nests)

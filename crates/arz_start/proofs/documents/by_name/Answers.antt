@@ -1,4 +1,4 @@
-use Rattle.std.proofs.Common.{rules, arith, refl}
+use Rattle.std.proofs.Common.{rules, refl}
 use Rattle.arz_start.proofs.Entries.{entered_step}
 use Rattle.arz_start.proofs.documents.by_name.Goals as goal
 
