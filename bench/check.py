@@ -4,8 +4,10 @@ that of Python's json module at reading all of these files, and its peak memory 
 five runs in turn.
 
 The description has one workflow of 256 steps with large values, which call operations of all sources in turn; each
-source has 5,000 operations. What each side takes for files of one step and one operation, its start, is taken off.
-Times are processor seconds, and memory is the largest resident set.
+source has 5,000 operations. Then the same with a step for each of these 20,000 operations, in 79 workflows: such a
+description is judged by its own rules today and then refused for its second workflow, so the sources aren't read, and
+the time is that of Python at the description alone. What each side takes for files of one step and one operation, its
+start, is taken off. Times are processor seconds, and memory is the largest resident set.
 """
 
 import json
@@ -46,10 +48,13 @@ def step(number, items):
 
 
 def description(steps, items):
-    """The description of one workflow with so many steps."""
-    workflow = {"workflowId": "main", "steps": [step(number, items) for number in range(steps)]}
+    """The description of so many steps, in workflows of at most 256."""
+    workflows = []
+    for begin in range(0, steps, STEPS):
+        numbers = range(begin, min(begin + STEPS, steps))
+        workflows.append({"workflowId": f"main{begin}", "steps": [step(number, items) for number in numbers]})
     sources = [{"name": f"shop{k}", "url": f"source{k}.json"} for k in range(SOURCES)]
-    return {"arazzo": "1.0.1", "info": INFO, "sourceDescriptions": sources, "workflows": [workflow]}
+    return {"arazzo": "1.0.1", "info": INFO, "sourceDescriptions": sources, "workflows": workflows}
 
 
 def source(name, operations, items):
@@ -72,17 +77,17 @@ def largest(make, low, high):
     return low
 
 
-def commands_for(name, documents, folder):
-    """Writes the files of a setup into a folder of this name, and returns the commands with what each prints."""
+def commands_for(name, documents, folder, *ends):
+    """Writes the files of a setup into a folder of this name, and returns the commands with how each ends."""
     (folder / name).mkdir()
     paths = {f"shop{k}": f"{name}/source{k}.json" for k in range(SOURCES)}
     setup = {"arazzo": f"{name}/description.json", "sources": paths}
     (folder / f"{name}.json").write_text(compact(setup))
-    files = [setup["arazzo"], *paths.values()]
+    files = [setup["arazzo"], *paths.values()][: len(documents)]
     for file, document in zip(files, documents):
         (folder / file).write_text(compact(document))
     return {
-        ("check", name): ([str(PROGRAM), "check", f"{name}.json"], b"ok\n"),
+        ("check", name): ([str(PROGRAM), "check", f"{name}.json"], *ends),
         ("json reads all", name): ([sys.executable, "-c", READ_ALL, *files], b""),
     }
 
@@ -102,13 +107,18 @@ def main():
     with tempfile.TemporaryDirectory() as place:
         folder = pathlib.Path(place)
         large, small = documents(STEPS, step_items, OPERATIONS, items), documents(1, 1, 1, 1)
-        commands = commands_for("large", large, folder) | commands_for("small", small, folder)
+        commands = commands_for("large", large, folder, b"ok\n") | commands_for("small", small, folder, b"ok\n")
+        many = description(SOURCES * OPERATIONS, 0)
+        commands |= commands_for("many", [many], folder, b"refused 0 NotBuilt arazzo#/workflows/1\n", 3)
         size = sum(file.stat().st_size for file in (folder / "large").iterdir())
         cost = medians(commands, RUNS, folder)
-    time = {which: cost[which, "large"][0] - cost[which, "small"][0] for which, _ in commands}
+    start = {which: cost[which, "small"][0] for which, _ in commands}
+    time = {which: cost[which, "large"][0] - start[which] for which in start}
+    many = {which: cost[which, "many"][0] - start[which] for which in start}
     peak = cost["check", "large"][1] - cost["check", "small"][1]
     print(f"check of {size} bytes: {time['check']:.3f} s; Python's json reads all: {time['json reads all']:.3f} s")
     print(f"check over Python's json: {time['check'] / time['json reads all']:.2f} (aim: at most 3)")
+    print(f"a description of {SOURCES * OPERATIONS} steps by itself: {many['check'] / many['json reads all']:.2f}")
     print(f"peak memory over the files' size: {peak / size:.1f}")
 
 

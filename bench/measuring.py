@@ -32,24 +32,25 @@ RUST_PACKAGE = '[package]\nname = "reads"\nversion = "0.0.0"\nedition = "2021"\n
 RUST_SOURCES = f'[source.crates-io]\nreplace-with = "debian"\n[source.debian]\ndirectory = "{RUST_CRATES}"\n'
 
 
-def measured(command, folder=None):
-    """Runs a command in a folder, and returns its processor seconds, its peak memory in bytes, and
-    what it printed."""
+def measured(command, folder=None, status=0):
+    """Runs a command in a folder, which is to end with this status, and returns its processor seconds,
+    its peak memory in bytes, and what it printed."""
     launch = [sys.executable, "-I", "-S", "-c", LAUNCH, *map(str, command)]
     run = subprocess.run(launch, cwd=folder, capture_output=True)
-    status, seconds, peak = run.stderr.split()[-3:]
-    if int(status) != 0:
-        sys.exit(f"{command[0]} ended with status {int(status)} and wrote {run.stdout[:200]!r}")
+    ended, seconds, peak = run.stderr.split()[-3:]
+    if int(ended) != status:
+        sys.exit(f"{command[0]} ended with status {int(ended)} and wrote {run.stdout[:200]!r}")
     return float(seconds), int(peak) * 1024, run.stdout
 
 
 def medians(commands, runs, folder=None):
-    """Runs the commands, which have names, in turn and so many times. Each is a list of words and what
-    it is to print, or a test of that. Returns the medians of seconds and of bytes by name."""
+    """Runs the commands, which have names, in turn and so many times. Each is a list of words, what it is
+    to print, or a test of that, and perhaps the status that it is to end with. Returns the medians of
+    seconds and of bytes by name."""
     costs = {name: [] for name in commands}
     for _ in range(runs):
-        for name, (words, wanted) in commands.items():
-            seconds, peak, printed = measured(words, folder)
+        for name, (words, wanted, *status) in commands.items():
+            seconds, peak, printed = measured(words, folder, *status)
             if not (wanted(printed) if callable(wanted) else printed == wanted):
                 sys.exit(f"{words[0]} wrote {printed[:200]!r}")
             costs[name].append((seconds, peak))
