@@ -1,5 +1,7 @@
 -- Criteria (Arazzo 1.0.1, section 4.6.11): what their texts spell, and why texts give none.
-use Rattle.std.specs.Prelude.{◌≡◌, ◌≢◌, ◌⊎◌, ℕ, List, codes, true, false, Option, Some}
+use Rattle.std.specs.Prelude.{◌≡◌, ◌≢◌, ◌⊎◌, ℕ, List, codes, true, false, Option, Some, option_and_then, unwrap_or}
+use Rattle.arz_json.specs.Look.{text_in, member_in, text_at}
+use Rattle.arz_json.specs.declared.tree.Json.{Json}
 use Rattle.arz_query.specs.Answers.{IsSpelled, Faults}
 use Rattle.arz_query.specs.declared.fault.PathFault.{PathFault}
 use Rattle.arz_query.specs.declared.fault.PathFault.TheVariants as path_fault
@@ -17,6 +19,17 @@ pub record Criterion : Type 0 where
   pub kind : List ℕ
   pub condition : List ℕ
   pub context : Option (List ℕ)
+
+abbrev pub text_named : List ℕ → Json → Option (List ℕ)
+text_named name j = option_and_then text_in (member_in name j)
+
+-- the criterion that a tree is, of type `simple` where none is written
+abbrev pub criterion_at : Json → Criterion
+criterion_at j = record {
+  kind = unwrap_or (text_named (codes "type") j) (codes "simple");
+  condition = text_at (codes "condition") j;
+  context = text_named (codes "context") j;
+}
 
 -- a type that is read
 abbrev pub IsKind : List ℕ → Type 0

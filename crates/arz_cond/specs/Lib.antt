@@ -8,3 +8,4 @@ pub mod Meaning
 pub mod Rendering
 pub mod Holding
 pub mod Seen
+pub mod Outcomes

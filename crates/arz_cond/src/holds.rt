@@ -1,5 +1,5 @@
 // Whether a criterion holds.
-ghost use Rattle.std.specs.Prelude.{◌≡◌, List, IfOk, string_bytes};
+ghost use Rattle.std.specs.Prelude.{◌≡◌, ◌≢◌, List, IfOk, IsErrOf, codes, string_bytes};
 ghost use Rattle.std.specs.Option.{option_copied};
 ghost use Rattle.std.specs.Fmt.{signed_decimal};
 ghost use Rattle.arz_query.specs.Answers.{Spells};
@@ -9,6 +9,8 @@ ghost use Rattle.arz_path.specs.Results.{Asked};
 ghost use Rattle.arz_expr.specs.Filling.{flag_text};
 ghost use Rattle.arz_cond.specs.Holding.{Answers, SaysOf, is_found as is_found_in, is_selected};
 ghost use Rattle.arz_cond.specs.Seen.{worth_seen, IsPlain};
+ghost use Rattle.arz_cond.specs.Criteria.{kind_of};
+ghost use Rattle.arz_cond.specs.declared.cause.CondFault.TheVariants as CondFault;
 
 use crate::cause::CondFault;
 use crate::evaluate::value_of;
@@ -90,6 +92,7 @@ fn parsed_holds<S: Scope, P: Patterns>(
     rx: &mut P,
 ) -> Result<bool, CondFault>
     ensures says { SaysOf parsed.now condition.now (S.found scope.now) result (P.patterns rx.old) (P.patterns rx.new) }
+    ensures simple { IsErrOf result CondFault.Pattern → kind_of parsed.now ≢ codes "simple" }
     ensures asked { Asked (P.patterns rx.old) (P.patterns rx.new) }
 {
     match parsed {
@@ -115,7 +118,7 @@ impl Test {
     /// context's value, and a jsonpath criterion where it selects at least one place in that value.
     ///
     /// `TooWide` comes where a list of places of a jsonpath criterion has over 1,000,000, as `arz_path::any` has it;
-    /// `Pattern` only where the count of patterns too big has risen.
+    /// `Pattern` only where the count of patterns too big has risen, and never of a simple criterion.
     pub fn holds<S: Scope, P: Patterns>(
         &self,
         alloc: Global,
@@ -123,6 +126,7 @@ impl Test {
         rx: &mut P,
     ) -> Result<bool, CondFault>
         ensures says { Says self.now (S.found scope.now) result (P.patterns rx.old) (P.patterns rx.new) }
+        ensures simple { IsErrOf result CondFault.Pattern → self.now.kind ≢ codes "simple" }
         ensures asked { Asked (P.patterns rx.old) (P.patterns rx.new) }
     {
         parsed_holds(alloc, self.parsed(), self.condition(), scope, rx)

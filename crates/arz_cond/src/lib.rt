@@ -14,6 +14,7 @@ mod pieces;
 mod reading;
 mod term;
 mod test;
+mod trees;
 mod values;
 mod words;
 
@@ -21,3 +22,4 @@ pub use cause::CondFault;
 pub use fault::TestFault;
 pub use term::{Comparison, Literal, Term};
 pub use test::Test;
+pub use trees::fault_of;

@@ -1,5 +1,6 @@
--- The workflow relation, case by case, over the raw documents (Arazzo 1.0.1, 4.6.4 and 4.6.5).
-use Rattle.std.specs.Prelude.{ℕ, ◌+◌, ◌==◌, ◌&&◌, ◌++◌, nat_le, if◌then◌else◌, Bool, true, false, List, [], ◌∷◌, codes, slice_get}
+-- The workflow relation, case by case, over the raw documents (Arazzo 1.0.1, 4.6.4 and 4.6.5), where `told` is what is told
+-- of patterns.
+use Rattle.std.specs.Prelude.{ℕ, ◌+◌, ◌==◌, ◌++◌, if◌then◌else◌, Bool, true, false, List, [], ◌∷◌, codes, slice_get}
 use Rattle.std.specs.declared.option.Option.{Option}
 use Rattle.std.specs.declared.option.Option.TheVariants.{None, Some}
 use Rattle.std.specs.declared.result.Result.TheVariants.{Ok, Err}
@@ -10,10 +11,13 @@ use Rattle.arz_world.specs.declared.Request.{Request}
 use Rattle.arz_flow.specs.declared.answers.Spot.{Spot}
 use Rattle.arz_flow.specs.declared.bundle.Bundle.{Bundle}
 use Rattle.arz_scope.specs.declared.facts.Fact.{Fact}
-use Rattle.arz_flow.specs.Documents.{text_at, workflow_named, steps_of}
+use Rattle.arz_request.specs.declared.cause.Cause.TheVariants.{TooWide}
+use Rattle.arz_path.specs.Outcome.{Outcome, given, wide, untold}
+use Rattle.arz_flow.specs.Documents.{text_at, workflow_named, steps_of, criteria_of}
+use Rattle.arz_flow.specs.Verdicts.{Patterned, verdict}
 use Rattle.arz_request.specs.Causes.{Made}
 use Rattle.arz_scope.specs.Outputs.{outputs_of}
-use Rattle.arz_flow.specs.Play.{Result, Completed, Broke, Completion, NoStep, Stuck, Budget, Seen, sends_in, Script, Give, Stops, Sends, Plays, Records}
+use Rattle.arz_flow.specs.Play.{Result, Completed, Broke, Completion, NoStep, Untold, Stuck, Budget, Seen, sends_in, Script, Give, Stops, Sends, Plays, Records}
 use Rattle.arz_flow.specs.Requests.{request_of}
 use Rattle.arz_scope.specs.Scopes.{Surroundings, Nothing, Exchange, found}
 
@@ -71,9 +75,11 @@ with_request (Err cause) at k = Stops (Stuck cause at)
 abbrev pub within_budget : Bundle → Seen → Script Case → Script Case
 within_budget b seen next = if sends_in seen.asked == b.max_attempts then Stops (Budget b.max_attempts) else next
 
--- an attempt without criteria succeeds at the statuses 200 to 299
-abbrev pub is_success : Reply → Bool
-is_success reply = nat_le 200 reply.status && nat_le reply.status 299
+-- whether an attempt succeeded, where that can be said; a selection that is too wide ends everything at the place
+abbrev pub with_verdict : Outcome Bool → Spot → (Bool → Script Case) → Script Case
+with_verdict (given ok) at k = k ok
+with_verdict wide at k = Stops (Stuck TooWide at)
+with_verdict untold at k = Stops Untold
 
 -- the fact of an attempt: the step's outputs, which may speak of its request and reply
 abbrev pub fact_of : Bundle → Run → List Completion → Json → Request → Reply → Fact
@@ -82,14 +88,21 @@ fact_of b r done step q y = record { step = step_id step; outputs = outputs_of (
 abbrev pub with_fact : Run → Fact → Run
 with_fact r fact = record { workflow = r.workflow; inputs = r.inputs; facts = r.facts ++ fact ∷ [] }
 
-abbrev pub after_reply : Bundle → Run → (step : ℕ) → Json → Request → Reply → Seen → Script Case
-after_reply b r i step q y seen = Plays (Goes_on (with_fact r (fact_of b r seen.done step q y)) i (is_success y)) give
+-- the criteria of a step, of which the expressions may speak of its request and reply
+abbrev pub verdict_of : Patterned → Bundle → Run → List Completion → Json → Request → Reply → Outcome Bool
+verdict_of told b r done step q y = verdict told (found (surroundings b r done) (Exchange q y)) y (criteria_of step)
+
+-- the criteria are tried, and then the fact is made
+abbrev pub after_reply : Patterned → Bundle → Run → (step : ℕ) → Json → Request → Reply → Seen → Script Case
+after_reply told b r i step q y seen =
+    with_verdict (verdict_of told b r seen.done step q y) (spot r step) (λ ok.
+    Plays (Goes_on (with_fact r (fact_of b r seen.done step q y)) i ok) give)
 
 -- the attempt of an operation step: its request is made, and sent where one more may be, and one reply is taken
-abbrev pub attempt : Bundle → Run → (step : ℕ) → Seen → Json → Script Case
-attempt b r i seen step =
+abbrev pub attempt : Patterned → Bundle → Run → (step : ℕ) → Seen → Json → Script Case
+attempt told b r i seen step =
     with_request (request_of b (found (surroundings b r seen.done) Nothing) (workflow_named r.workflow b.arazzo) step) (spot r step) (λ q.
-    within_budget b seen (Sends q (after_reply b r i step q)))
+    within_budget b seen (Sends q (after_reply told b r i step q)))
 
 -- the step after, or the end of the run after the last
 abbrev pub next_step : Run → (step : ℕ) → Option Json → Case
@@ -108,9 +121,9 @@ run_outputs b r done (Some workflow) = outputs_of (found (surroundings b r done)
 abbrev pub outputs_at_end : Bundle → Run → List Completion → List Member
 outputs_at_end b r done = run_outputs b r done (workflow_named r.workflow b.arazzo)
 
-unfoldable pub script : Bundle → Case → Seen → Script Case
-script b (Runs w inputs) seen = Plays (Enters (begun w inputs) 0) (after_run w inputs)
-script b (Enters r i) seen = with_step (slice_get (steps_of b r.workflow) i) (attempt b r i seen)
-script b (Goes_on r i true) seen = Plays (next_step r (i + 1) (slice_get (steps_of b r.workflow) (i + 1))) give
-script b (Goes_on r i false) seen = Plays (Closes r false) give
-script b (Closes r ok) seen = Give (result ok (outputs_at_end b r seen.done))
+unfoldable pub script : Patterned → Bundle → Case → Seen → Script Case
+script told b (Runs w inputs) seen = Plays (Enters (begun w inputs) 0) (after_run w inputs)
+script told b (Enters r i) seen = with_step (slice_get (steps_of b r.workflow) i) (attempt told b r i seen)
+script told b (Goes_on r i true) seen = Plays (next_step r (i + 1) (slice_get (steps_of b r.workflow) (i + 1))) give
+script told b (Goes_on r i false) seen = Plays (Closes r false) give
+script told b (Closes r ok) seen = Give (result ok (outputs_at_end b r seen.done))

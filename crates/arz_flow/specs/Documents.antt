@@ -17,3 +17,7 @@ steps_in (Some workflow) = items_at (codes "steps") workflow
 
 abbrev pub steps_of : Bundle → List ℕ → List Json
 steps_of b workflow = steps_in (workflow_named workflow b.arazzo)
+
+-- the success criteria of a step, in order (4.6.5.1: successCriteria)
+abbrev pub criteria_of : Json → List Json
+criteria_of step = items_at (codes "successCriteria") step

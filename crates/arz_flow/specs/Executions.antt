@@ -1,4 +1,4 @@
--- The asks and the end of an execution.
+-- The asks and the end of an execution, where `told` is what is told of patterns.
 use Rattle.std.specs.Prelude.{ℕ, ◌+◌, ◌*◌, ◌≡◌, ◌≤◌, Bool, true, false, List, [], ◌++◌, if◌then◌else◌, Option, Some, None, length}
 use Rattle.arz_flow.specs.declared.bundle.Bundle.{Bundle}
 use Rattle.arz_flow.specs.declared.answers.Ask.{Ask}
@@ -11,8 +11,9 @@ use Rattle.arz_flow.specs.declared.answers.End.TheVariants.{Completed as EndComp
 use Rattle.arz_json.specs.Tree.{has_opaque}
 use Rattle.arz_json.specs.declared.Json.TheVariants.{Object}
 use Rattle.arz_json.specs.declared.Member.{Member}
-use Rattle.arz_flow.specs.Play.{State, Result, Play, Spent, Lost, Out, Ends, Gives, Completed, Broke, NoStep, Stuck, Budget, play}
+use Rattle.arz_flow.specs.Play.{State, Result, Play, Spent, Lost, Out, Ends, Gives, Completed, Broke, NoStep, Untold, Stuck, Budget, play}
 use Rattle.arz_flow.specs.Cases.{Runs, script}
+use Rattle.arz_flow.specs.Verdicts.{Patterned}
 
 -- whether an answer fits its ask
 abbrev pub fits : Ask → Answer → Bool
@@ -25,8 +26,8 @@ abbrev pub start : List Answer → State
 start r = record { left = r; asked = []; done = []; turns = 0; most = 0 }
 
 -- the execution over these answers, with this fuel: a run of the starting workflow with the setup's inputs
-abbrev pub execution : Bundle → List Answer → ℕ → Play
-execution b r n = play (script b) n (Runs b.workflow b.inputs) (start r)
+abbrev pub execution : Patterned → Bundle → List Answer → ℕ → Play
+execution told b r n = play (script told b) n (Runs b.workflow b.inputs) (start r)
 
 -- at most so many turns stand before each ask and before the end
 abbrev pub pace : ℕ
@@ -36,8 +37,8 @@ pace = 264
 abbrev pub fuel : ℕ → ℕ
 fuel answers = (answers + 1) * pace
 
-abbrev pub whole : Bundle → List Answer → Play
-whole b r = execution b r (fuel (length r))
+abbrev pub whole : Patterned → Bundle → List Answer → Play
+whole told b r = execution told b r (fuel (length r))
 
 abbrev pub asks_of : Play → List Ask
 asks_of Spent = []
@@ -60,6 +61,7 @@ end_of workflow Spent = None
 end_of workflow Lost = None
 end_of workflow (Out q s) = Some (EndOut q)
 end_of workflow (Ends NoStep s) = None
+end_of workflow (Ends Untold s) = None
 end_of workflow (Ends (Stuck cause at) s) = Some (EndStuck cause at)
 end_of workflow (Ends (Budget limit) s) = Some (EndBudget limit)
 end_of workflow (Gives o s) = Some (end_of_result workflow o)
@@ -73,16 +75,31 @@ TookAll (Ends c s) = s.left ≡ []
 TookAll (Gives o s) = s.left ≡ []
 
 -- the asks that were answered, in order
-abbrev pub asks : Bundle → List Answer → List Ask
-asks b r = asks_of (whole b r)
+abbrev pub asks : Patterned → Bundle → List Answer → List Ask
+asks told b r = asks_of (whole told b r)
 
 -- the end of the execution
-abbrev pub end : Bundle → List Answer → Option End
-end b r = end_of b.workflow (whole b r)
+abbrev pub end : Patterned → Bundle → List Answer → Option End
+end told b r = end_of b.workflow (whole told b r)
 
 -- all of the answers were taken, and each fits its ask
-abbrev pub Fitting : Bundle → List Answer → Type 0
-Fitting b r = TookAll (whole b r)
+abbrev pub Fitting : Patterned → Bundle → List Answer → Type 0
+Fitting told b r = TookAll (whole told b r)
+
+-- a play that needed no pattern of which nothing is told
+abbrev pub is_told : Play → Bool
+is_told Spent = true
+is_told Lost = true
+is_told (Out q s) = true
+is_told (Ends NoStep s) = true
+is_told (Ends Untold s) = false
+is_told (Ends (Stuck cause at) s) = true
+is_told (Ends (Budget limit) s) = true
+is_told (Gives o s) = true
+
+-- all that the execution needs of patterns is told
+abbrev pub IsTold : Patterned → Bundle → List Answer → Type 0
+IsTold told b r = is_told (whole told b r) ≡ true
 
 abbrev pub HasPace : ℕ → Play → Type 0
 HasPace m Spent = ⊥

@@ -1,5 +1,6 @@
 pub mod Documents
 pub mod Requests
+pub mod Verdicts
 pub mod Valid
 pub mod Play
 pub mod Cases

@@ -16,9 +16,11 @@ pub data Result : Type 0 where
   Completed : List Member → Result
   Broke : List Member → Result
 
--- what ends everything, wherever it arises: a step that isn't there, a cause at a place, or a request past those that may be sent
+-- what ends everything, wherever it arises: a step that isn't there, a criterion that needs a pattern of which nothing is told, a cause at a
+-- place, or a request past those that may be sent
 pub data Halt : Type 0 where
   NoStep : Halt
+  Untold : Halt
   Stuck : Cause → Spot → Halt
   Budget : (limit : ℕ) → Halt
 

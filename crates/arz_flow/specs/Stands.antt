@@ -3,9 +3,10 @@ use Rattle.std.specs.Prelude.{ℕ, ◌+◌, ◌≡◌, ◌≢◌, max, List, [],
 use Rattle.arz_flow.specs.declared.answers.Ask.{Ask}
 use Rattle.arz_flow.specs.declared.answers.Answer.{Answer}
 use Rattle.arz_flow.specs.declared.bundle.Bundle.{Bundle}
-use Rattle.arz_flow.specs.Play.{Result, Completion, Seen, State, seen, Play, Spent, Script, then_play, follow, play}
+use Rattle.arz_flow.specs.Play.{Result, Completion, Seen, State, seen, Halt, NoStep, Untold, Stuck, Budget, Play, Spent, Lost, Out, Ends, Gives, Script, then_play, follow, play}
 use Rattle.arz_flow.specs.Cases.{Case, script}
 use Rattle.arz_flow.specs.Executions.{execution}
+use Rattle.arz_flow.specs.Verdicts.{Patterned}
 
 -- what the answers so far have made
 pub record Past : Type 0 where
@@ -37,17 +38,28 @@ abbrev pub Follow : Type 0
 Follow = Result → Seen → Script Case
 
 -- what the open runs add to a play of the innermost, which comes first
-abbrev pub unwinds : Bundle → ℕ → List Follow → Play → Play
-unwinds b n [] p = p
-unwinds b n (k ∷ ks) p = unwinds b n ks (then_play p (λ o t. follow (play (script b) n) (k o (seen t)) t))
+abbrev pub unwinds : Patterned → Bundle → ℕ → List Follow → Play → Play
+unwinds told b n [] p = p
+unwinds told b n (k ∷ ks) p = unwinds told b n ks (then_play p (λ o t. follow (play (script told b) n) (k o (seen t)) t))
 
-abbrev pub from_here : Bundle → ℕ → Script Case → List Follow → State → Play
-from_here b n c ks s = unwinds b n ks (follow (play (script b) n) c s)
+abbrev pub from_here : Patterned → Bundle → ℕ → Script Case → List Follow → State → Play
+from_here told b n c ks s = unwinds told b n ks (follow (play (script told b) n) c s)
 
--- the execution over these answers comes to this
-abbrev pub Comes : Bundle → List Answer → Play → Type 0
-Comes b r p = (n : ℕ) × (execution b r n ≡ p)
+-- these are one play, unless the first needed a pattern of which nothing is told
+abbrev pub Agrees : Play → Play → Type 0
+Agrees Spent p = Spent ≡ p
+Agrees Lost p = Lost ≡ p
+Agrees (Out q s) p = Out q s ≡ p
+Agrees (Ends NoStep s) p = Ends NoStep s ≡ p
+Agrees (Ends Untold s) p = Unit {0}
+Agrees (Ends (Stuck cause at) s) p = Ends (Stuck cause at) s ≡ p
+Agrees (Ends (Budget limit) s) p = Ends (Budget limit) s ≡ p
+Agrees (Gives o s) p = Gives o s ≡ p
+
+-- the execution over these answers comes to this, where all that it needs of patterns is told
+abbrev pub Comes : Patterned → Bundle → List Answer → Play → Type 0
+Comes told b r p = (n : ℕ) × Agrees (execution told b r n) p
 
 -- after the answers r the execution goes on as this script does, under the open runs
-pub record Stands (b : Bundle) (c : Script Case) (ks : List Follow) (p : Past) (r : List Answer) : Type 0 where
-  pub goes : (rest : List Answer) (n : ℕ) → from_here b n c ks (state rest p) ≢ Spent → Comes b (r ++ rest) (from_here b n c ks (state rest p))
+pub record Stands (told : Patterned) (b : Bundle) (c : Script Case) (ks : List Follow) (p : Past) (r : List Answer) : Type 0 where
+  pub goes : (rest : List Answer) (n : ℕ) → from_here told b n c ks (state rest p) ≢ Spent → Comes told b (r ++ rest) (from_here told b n c ks (state rest p))

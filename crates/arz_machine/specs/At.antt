@@ -1,4 +1,4 @@
--- Where the machine stands in an execution.
+-- Where the machine stands in an execution, where `told` is what is told of patterns.
 use Rattle.std.specs.Prelude.{ℕ, ◌≡◌, ◌≤◌, false, List, length, Option, Some}
 use Rattle.arz_flow.specs.declared.answers.Ask.TheVariants.{Send}
 use Rattle.arz_flow.specs.declared.answers.Answer.{Answer}
@@ -7,6 +7,7 @@ use Rattle.arz_flow.specs.declared.answers.End.TheVariants.{Out}
 use Rattle.arz_flow.specs.declared.bundle.Bundle.{Bundle}
 use Rattle.arz_scope.specs.declared.facts.Fact.{Fact}
 use Rattle.arz_flow.specs.Documents.{steps_of}
+use Rattle.arz_flow.specs.Verdicts.{Patterned}
 use Rattle.arz_machine.specs.declared.machine.Machine.{Machine}
 use Rattle.arz_machine.specs.declared.machine.Next.{Next}
 use Rattle.arz_machine.specs.declared.machine.Next.TheVariants.{Send as NextSend, Ended as NextEnded}
@@ -25,11 +26,11 @@ abbrev pub standing : Machine → Standing
 standing m = record { bundle = m.run.bundle.now; facts = m.run.facts; step = m.step; rest = rest_of m.state }
 
 -- the machine has taken these answers
-pub record At (m : Standing) (b : Bundle) (r : List Answer) : Type 0 where
+pub record At (told : Patterned) (m : Standing) (b : Bundle) (r : List Answer) : Type 0 where
   pub bundle : m.bundle ≡ b
   pub count : length r ≡ m.step
   pub within : m.step ≤ length (steps_of b b.workflow)
-  pub rests : Rests b m.facts m.step m.rest r
+  pub rests : Rests told b m.facts m.step m.rest r
 
 -- where a machine rests whose next is this
 abbrev pub rest_told : Next → Rest

@@ -6,3 +6,4 @@ pub mod At
 pub mod Spoken
 pub mod Joining
 pub mod Reached
+pub mod Tests

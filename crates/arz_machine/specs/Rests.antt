@@ -1,4 +1,4 @@
--- Where an execution rests.
+-- Where an execution rests, where `told` is what is told of patterns.
 use Rattle.std.specs.Prelude.{ℕ, ◌≡◌, true, false, Bool, List, [], ◌∷◌, slice_get, length, Option, Some, None}
 use Rattle.arz_json.specs.declared.Json.{Json}
 use Rattle.arz_world.specs.declared.Request.{Request}
@@ -10,7 +10,8 @@ use Rattle.arz_scope.specs.declared.facts.Fact.{Fact}
 use Rattle.arz_flow.specs.Documents.{steps_of}
 use Rattle.arz_flow.specs.Play.{Sends as SendsNext, sends_in}
 use Rattle.arz_flow.specs.Cases.{after_run, after_reply}
-use Rattle.arz_flow.specs.Executions.{fits, end, Fitting}
+use Rattle.arz_flow.specs.Executions.{fits, end, Fitting, IsTold}
+use Rattle.arz_flow.specs.Verdicts.{Patterned}
 use Rattle.arz_flow.specs.Stands.{Follow, Past, Stands}
 use Rattle.arz_machine.specs.States.{Rest, Sends, Ended, run_of}
 
@@ -19,13 +20,13 @@ abbrev pub open_runs : Bundle → List Follow
 open_runs b = after_run b.workflow b.inputs ∷ []
 
 -- the execution waits for the reply to a step's request, after these facts
-pub record IsSending (b : Bundle) (facts : List Fact) (i : ℕ) (q : Request) (r : List Answer) : Type 0 where
+pub record IsSending (told : Patterned) (b : Bundle) (facts : List Fact) (i : ℕ) (q : Request) (r : List Answer) : Type 0 where
   pub step : Json
   pub there : slice_get (steps_of b b.workflow) i ≡ Some step
   pub past : Past
   pub fresh : past.done ≡ []
   pub counted : sends_in past.asked ≡ length facts
-  pub stands : Stands b (SendsNext q (after_reply b (run_of b facts) i step q)) (open_runs b) past r
+  pub stands : Stands told b (SendsNext q (after_reply told b (run_of b facts) i step q)) (open_runs b) past r
 
 -- the end lacks an answer
 abbrev pub lacks_answer : End → Bool
@@ -35,15 +36,15 @@ lacks_answer (Broke outputs) = false
 lacks_answer (Stuck cause at) = false
 lacks_answer (Budget limit) = false
 
--- the execution has ended
-pub record IsOver (b : Bundle) (e : End) (r : List Answer) : Type 0 where
-  pub fitting : Fitting b r
-  pub end : end b r ≡ Some e
+-- the execution has ended, where all that it needs of patterns is told
+pub record IsOver (told : Patterned) (b : Bundle) (e : End) (r : List Answer) : Type 0 where
+  pub fitting : IsTold told b r → Fitting told b r
+  pub end : IsTold told b r → end told b r ≡ Some e
   pub settled : lacks_answer e ≡ false
 
-abbrev pub Rests : Bundle → List Fact → (step : ℕ) → Rest → List Answer → Type 0
-Rests b facts i (Sends q) r = IsSending b facts i q r
-Rests b facts i (Ended e) r = IsOver b e r
+abbrev pub Rests : Patterned → Bundle → List Fact → (step : ℕ) → Rest → List Answer → Type 0
+Rests told b facts i (Sends q) r = IsSending told b facts i q r
+Rests told b facts i (Ended e) r = IsOver told b e r
 
 -- whether the end lacks an answer like this one
 abbrev pub takes : Option End → Answer → Bool

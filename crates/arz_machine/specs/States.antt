@@ -10,10 +10,13 @@ use Rattle.arz_flow.specs.declared.answers.End.TheVariants.{Stuck, Budget}
 use Rattle.arz_flow.specs.declared.answers.Spot.{Spot}
 use Rattle.arz_flow.specs.declared.bundle.Bundle.{Bundle}
 use Rattle.arz_scope.specs.declared.facts.Fact.{Fact}
-use Rattle.arz_flow.specs.Cases.{Run, surroundings, spot, fact_of, result, outputs_at_end}
+use Rattle.arz_path.specs.Outcome.{Outcome}
+use Rattle.arz_flow.specs.Verdicts.{Patterned}
+use Rattle.arz_flow.specs.Cases.{Run, surroundings, spot, fact_of, verdict_of, result, outputs_at_end}
 use Rattle.arz_flow.specs.Executions.{end_of_result}
 use Rattle.arz_flow.specs.Documents.{workflow_named}
 use Rattle.arz_request.specs.Causes.{Made}
+use Rattle.arz_request.specs.declared.cause.Cause.TheVariants.{TooWide}
 use Rattle.arz_flow.specs.Requests.{request_of}
 use Rattle.arz_scope.specs.Scopes.{Nothing, found}
 use Rattle.arz_flow.specs.declared.answers.End.{End}
@@ -59,6 +62,14 @@ next_fact b facts step q y = fact_of b (run_of b facts) [] step q y
 
 abbrev pub closed : Bundle → List Fact → Bool → Rest
 closed b facts ok = Ended (end_of_result b.workflow (result ok (outputs_at_end b (run_of b facts) [])))
+
+-- whether the attempt of a step succeeded
+abbrev pub verdict_in : Patterned → Bundle → List Fact → Json → Request → Reply → Outcome Bool
+verdict_in told b facts step q y = verdict_of told b (run_of b facts) [] step q y
+
+-- a selection of a criterion of a step is too wide
+abbrev pub widened : Bundle → List Fact → Json → Rest
+widened b facts step = Ended (Stuck TooWide (spot (run_of b facts) step))
 
 -- after an attempt: the next step, if the attempt succeeded and there is one, else the end of the run
 abbrev pub goes_to : Bundle → List Fact → Bool → Option Json → Rest

@@ -7,7 +7,9 @@ mod given;
 mod machine;
 mod run;
 mod state;
+mod tests;
 mod turns;
+mod verdicts;
 mod workflow;
 
 pub use machine::{Machine, MachineFault, Next};

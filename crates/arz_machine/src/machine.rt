@@ -26,6 +26,9 @@ pub enum MachineFault {
     /// It is of another kind than what is asked, or nothing is asked.
     #[error("the answer is of another kind than what is asked")]
     WrongKind,
+    /// A pattern that a criterion needs was too big. The count of such patterns has risen.
+    #[error("a pattern is too big")]
+    Pattern,
     /// Memory ran out.
     #[error("out of memory")]
     Memory,

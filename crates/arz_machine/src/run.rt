@@ -7,9 +7,11 @@ ghost use Rattle.arz_components.specs.declared.components.Part.{Part};
 ghost use Rattle.arz_flow.specs.Documents.{workflow_named, steps_of};
 ghost use Rattle.arz_flow.specs.Requests.{endpoint_of};
 ghost use Rattle.arz_flow.specs.Valid.{IsValid};
+ghost use Rattle.arz_machine.specs.Tests.{tests_of};
 ghost use Rattle.arz_scope.specs.Shallow.{HaveShallow};
 
 use arz_components::Components;
+use arz_cond::Test;
 use arz_flow::{Bundle, Endpoint, Fact};
 use arz_json::{Json, Many};
 use std::alloc::Global;
@@ -28,6 +30,8 @@ pub(crate) struct Run<'a> {
     pub steps: &'a [Json],
     /// What each of the steps calls.
     pub endpoints: Many<Endpoint>,
+    /// The success criteria of each of the steps.
+    pub tests: Many<Many<Test>>,
     /// What each attempt left, in order.
     pub facts: Many<Fact>,
     ghost valid: { IsValid bundle.now },
@@ -35,5 +39,6 @@ pub(crate) struct Run<'a> {
     ghost named: { option_copied workflow ≡ workflow_named bundle.now.workflow bundle.now.arazzo },
     ghost listed: { steps.now ≡ steps_of bundle.now bundle.now.workflow },
     ghost called: { endpoints ≡ map (endpoint_of bundle.now) steps.now },
+    ghost read: { tests ≡ map tests_of steps.now },
     ghost shallow: { HaveShallow facts },
 }

@@ -1,5 +1,5 @@
 // The turns of a run: a step is entered, an attempt leaves its fact, the run is closed.
-ghost use Rattle.std.specs.Prelude.{◌≡◌, ℕ, ◌+◌, ◌<◌, ◌++◌, ◌∷◌, [], length, slice_get, true, IfOk, OnOk, OnErr, Some};
+ghost use Rattle.std.specs.Prelude.{◌≡◌, ℕ, ◌+◌, ◌<◌, ◌++◌, ◌∷◌, [], length, slice_get, true, IfOk, OnOk, OnErr, IsErrOf, Some};
 ghost use Rattle.std.specs.Option.{option_copied};
 ghost use Rattle.arz_json.specs.declared.Json.{Json};
 ghost use Rattle.arz_json.specs.Answer.{Gives};
@@ -8,21 +8,28 @@ ghost use Rattle.arz_request.specs.Causes.{told};
 ghost use Rattle.arz_scope.specs.Shallow.{AreShallow, SendsShallow};
 ghost use Rattle.arz_flow.specs.Cases.{spot as spot_of, outputs_at_end};
 ghost use Rattle.arz_flow.specs.Valid.{IsValid};
+ghost use Rattle.arz_flow.specs.Verdicts.{asks_patterns};
+ghost use Rattle.arz_cond.specs.Holding.{Answers};
+ghost use Rattle.arz_path.specs.Results.{Asked};
 ghost use Rattle.arz_machine.specs.Plain.{is_plain};
 ghost use Rattle.arz_machine.specs.Resting.{rest_of};
 ghost use Rattle.arz_machine.specs.Spoken.{spoken};
-ghost use Rattle.arz_machine.specs.States.{has_step, run_of, is_spent, request_in, entered, closed, goes_to, next_fact};
+ghost use Rattle.arz_machine.specs.States.{has_step, run_of, is_spent, request_in, entered, closed, goes_to, next_fact, verdict_in, widened};
 
 use crate::endpoints::endpoints;
 use crate::given::given;
 use crate::run::Run;
 use crate::state::{Ready, State};
+use crate::tests::tests;
+use crate::verdicts::succeeds;
 use crate::workflow::{steps, workflow};
 use arz_components::Components;
+use arz_cond::CondFault;
 use arz_description::read_body;
 use arz_flow::{Bundle, Cause, End, Fact, Spot, text_at};
 use arz_json::{Json, Many, Members, Text};
 use arz_request::{BuildFault, build};
+use arz_rx::Patterns;
 use arz_scope::{Exchange, RunScope, any_opaque, outputs};
 use arz_world::{Reply, Request};
 use std::alloc::{AllocError, Global};
@@ -37,6 +44,7 @@ impl<'a> Run<'a> {
         let components = Components::of(alloc, &bundle.arazzo)?;
         let steps = steps(bundle);
         let endpoints = endpoints(alloc, bundle, steps)?;
+        let tests = tests(alloc, steps)?;
         Ok(Run {
             alloc,
             bundle,
@@ -44,6 +52,7 @@ impl<'a> Run<'a> {
             workflow: workflow(bundle),
             steps,
             endpoints,
+            tests,
             facts: Many::new(alloc),
         })
     }
@@ -86,6 +95,38 @@ impl<'a> Run<'a> {
             body.as_ref(),
             &scope,
         )
+    }
+
+    /// Whether the attempt of the step at this index succeeded.
+    pub fn verdict<P: Patterns>(
+        &self,
+        index: usize,
+        ready: &Ready,
+        reply: &Reply,
+        rx: &mut P,
+    ) -> Result<bool, CondFault>
+        requires { index < length self.now.steps.now }
+        ensures says { (step : Json) → slice_get self.now.steps.now index ≡ Some step
+            → Answers result (verdict_in (P.patterns rx.old).told self.now.bundle.now self.now.facts step ready.now.request reply.now) (P.patterns rx.old) (P.patterns rx.new) }
+        ensures asked { Asked (P.patterns rx.old) (P.patterns rx.new) }
+        ensures pattern { IsErrOf result CondFault.Pattern → asks_patterns self.now.bundle.now ≡ true }
+    {
+        let tests = self.tests.as_slice()[index].as_slice();
+        let exchange = Exchange::new(self.alloc, &ready.request, reply)?;
+        let scope = self.scope(Some(&exchange))?;
+        succeeds(self.alloc, tests, reply, &scope, rx)
+    }
+
+    /// Where the execution rests where a selection of a criterion of the step at this index is too wide.
+    pub fn too_wide(&self, index: usize) -> Result<State, AllocError>
+        requires { index < length self.now.steps.now }
+        ensures state { IfOk result (λ state. (step : Json) → slice_get self.now.steps.now index ≡ Some step
+            → rest_of state ≡ widened self.now.bundle.now self.now.facts step) }
+        ensures inside { IfOk result (λ state. (step count : ℕ) → has_step (rest_of state) step count ≡ true) }
+        ensures plain { IfOk result (λ state. is_plain (rest_of state) ≡ true) }
+    {
+        let spot = self.spot(&self.steps[index])?;
+        Ok(State::Ended(End::Stuck(Cause::TooWide, spot)))
     }
 
     /// The fact of an attempt of the step at this index.

@@ -1,3 +1,4 @@
+pub mod Plain
 pub mod Laws
 pub mod Mock
 pub mod Played

@@ -4,16 +4,17 @@ use Rattle.arz_world.specs.declared.Reply.{Reply}
 use Rattle.arz_flow.specs.declared.answers.Ask.{Ask}
 use Rattle.arz_flow.specs.declared.answers.End.TheVariants.{Out}
 use Rattle.arz_flow.specs.declared.bundle.Bundle.{Bundle}
-use Rattle.arz_flow.specs.Executions.{asks, end}
+use Rattle.arz_flow.specs.Executions.{asks, end, IsTold}
+use Rattle.arz_flow.specs.Verdicts.{Patterned}
 use Rattle.arz_machine.specs.At.{Standing, At}
 use Rattle.arz_session.specs.declared.session.Line.{Line}
 use Rattle.arz_session.specs.Mock.{answers, lines_of}
 
 -- the replies of the front were taken, each with its line; all of them where an answer is lacking
-pub record IsPlayed (b : Bundle) (replies : List Reply) (m : Standing) (lines : List Line) : Type 0 where
+pub record IsPlayed (told : Patterned) (b : Bundle) (replies : List Reply) (m : Standing) (lines : List Line) : Type 0 where
   pub used : List Reply
   pub left : List Reply
   pub front : used ++ left ≡ replies
-  pub at : At m b (answers used)
-  pub all : (q : Ask) → end b (answers used) ≡ Some (Out q) → left ≡ []
-  pub told : lines ≡ lines_of (asks b (answers used)) used
+  pub at : At told m b (answers used)
+  pub all : IsTold told b (answers used) → (q : Ask) → end told b (answers used) ≡ Some (Out q) → left ≡ []
+  pub lines_told : IsTold told b (answers used) → lines ≡ lines_of (asks told b (answers used)) used

@@ -6,4 +6,4 @@ mod over_replies;
 mod session;
 
 pub use over_replies::mock;
-pub use session::{How, Line, Session};
+pub use session::{How, Line, Outcome, Session};

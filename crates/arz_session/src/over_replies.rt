@@ -16,53 +16,23 @@ use arz_world::Reply;
 use std::alloc::{AllocError, Global};
 
 /// Runs a bundle's starting workflow over given replies, and sends nothing. It takes replies until
-/// the execution ends, and ends with `Out` where there are too few.
-pub fn mock(alloc: Global, bundle: &Bundle, replies: Many<Reply>) -> Result<Session, AllocError>
+/// the execution ends, and ends with `Out` where there are too few. `rx` searches for the patterns of
+/// criteria; the outcome is `Pattern` only where the count of patterns too big has risen.
+pub fn mock<P: Patterns>(
+    alloc: Global,
+    bundle: &Bundle,
+    replies: Many<Reply>,
+    rx: &mut P,
+) -> Result<Session, AllocError>
     requires { IsValid bundle.now }
-    ensures { IfOk result (IsMock bundle.now replies) }
+    ensures mock { IfOk result (IsMock (P.patterns rx.old).told bundle.now replies) }
+    ensures pattern { IfOk result (λ s. OnlyWhereRose bundle.now (P.patterns rx.old) (P.patterns rx.new) s.outcome) }
+    ensures asked { Asked (P.patterns rx.old) (P.patterns rx.new) }
 {
     let mut machine = Machine::start(alloc, bundle)?;
-    let lines = play(alloc, &mut machine, replies)?;
-    let end = machine.into_end();
-    Ok(Session { lines, end })
-}
-
-// Tells a machine the replies, up to its end, and gives the line of each.
-fn play(
-    alloc: Global,
-    machine: &mut Machine,
-    replies: Many<Reply>,
-) -> Result<Many<Line>, AllocError>
-    ensures { IfOk result (λ lines. (b : Bundle) → At (standing machine.old) b [] → IsPlayed b replies (standing machine.new) lines) }
-{
     let mut lines = Vec::new(alloc);
-    for reply in replies.into_std() {
-        let n = machine.number();
-        let ask = match machine.next() {
-            Next::Ended(_) => break,
-            Next::Send(request) => send_text(alloc, request)?,
-        };
-        let status = Some(reply.status);
-        tell(machine, &reply)?;
-        lines.push(Line {
-            n,
-            ask,
-            status,
-            how: How::Mock,
-        })?;
-    }
-    Ok(Many::from_std(lines))
-}
-
-// Tells a machine the reply to the request that it asks for.
-fn tell(machine: &mut Machine, reply: &Reply) -> Result<(), AllocError>
-    requires { is_sending (standing machine.old).rest ≡ true }
-    ensures { OnOk result ((b : Bundle) (r : List Answer) → At (standing machine.old) b r
-        → At (standing machine.new) b (r ++ Answer.Reply reply.now ∷ [])) }
-{
-    match machine.tell(reply) {
-        Ok(()) => Ok(()),
-        Err(MachineFault::WrongKind) => unreachable!(),
-        Err(MachineFault::Memory) => Err(AllocError),
-    }
+    let pattern = play(alloc, &mut machine, replies, &mut lines, rx)?;
+    let lines = Many::from_std(lines);
+    let outcome = if pattern { Outcome::Pattern } else { Outcome::Ended(machine.into_end()) };
+    Ok(Session { lines, outcome })
 }

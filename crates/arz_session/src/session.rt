@@ -1,7 +1,7 @@
 // What a run of a workflow came to.
 ghost use Rattle.std.specs.Prelude.{◌≡◌, ◌≤◌, true, length};
-ghost use Rattle.arz_machine.specs.Plain.{has_plain_outputs};
 ghost use Rattle.arz_flow.specs.Valid.{steps_limit};
+ghost use Rattle.arz_session.specs.Plain.{is_plain};
 
 use arz_flow::End;
 use arz_json::{Many, Text};
@@ -32,13 +32,22 @@ pub struct Line {
     pub how: How,
 }
 
+/// How a session ended.
+#[derive(Debug, Drop)]
+pub enum Outcome {
+    /// The execution came to this end.
+    Ended(End),
+    /// A pattern that a criterion of the last ask needs was too big. The count of such patterns has risen.
+    Pattern,
+}
+
 /// What a run of a workflow came to.
 #[derive(Debug, Drop)]
 pub struct Session {
     /// A line for each ask that was answered, in order.
     pub lines: Many<Line>,
-    /// How the run ended.
-    pub end: End,
+    /// How the session ended.
+    pub outcome: Outcome,
     ghost few: { length lines ≤ steps_limit },
-    ghost plain: { has_plain_outputs end ≡ true },
+    ghost plain: { is_plain outcome ≡ true },
 }
