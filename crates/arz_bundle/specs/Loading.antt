@@ -1,5 +1,5 @@
 -- How the files of a run are read, and what comes of them: phase by phase, and in each the first rule that fails.
-use Rattle.std.specs.Prelude.{◌≡◌, ◌⊎◌, ◌<◌, ◌≤◌, ℕ, List, [], ◌∷◌, length, codes, Option, Some, None}
+use Rattle.std.specs.Prelude.{◌≡◌, ◌≢◌, ◌⊎◌, ◌<◌, ◌≤◌, ℕ, List, [], ◌∷◌, length, codes, Option, Some, None}
 use Rattle.std.specs.declared.result.Result.{Result}
 use Rattle.std.specs.declared.result.Result.TheVariants.{Ok, Err}
 use Rattle.arz_json.specs.Look.{text_at, items_at}
@@ -16,6 +16,7 @@ use Rattle.arz_overlay.specs.Documents.{Document, document}
 use Rattle.arz_overlay.specs.Overlaid.{overlaid}
 use Rattle.arz_rules.specs.Phases.{refusal}
 use Rattle.arz_rx.specs.Patterns.{PatternsView, Rose as PatternsRose}
+use Rattle.arz_criteria.specs.Rules.{patterns_in}
 use Rattle.arz_bundle.specs.declared.fault.LoadFault.{LoadFault}
 use Rattle.arz_bundle.specs.declared.fault.LoadFault.TheVariants.{File, Refused, Pattern, Memory}
 use Rattle.arz_bundle.specs.Overlays.{Listed, overlays_for, overlay_label}
@@ -129,10 +130,12 @@ module _ (before now : FilesView) (old new : PatternsView) where
   abbrev pub AfterBuilt : (setup description : Json) → Result Bundle LoadFault → Type 0
   AfterBuilt setup description = FromSources before now old new setup (items_at (codes "sourceDescriptions") description) (AfterSources setup description)
 
-  -- the description's rules with those of what the setup names in it, and then what isn't built yet
+  -- the rules of the description and its criteria with those of what the setup names in it, and then what isn't built yet; or a pattern
+  -- of a criterion was too big
   abbrev pub AfterDescription : (setup description : Json) → Result Bundle LoadFault → Type 0
   AfterDescription setup description x =
-      (told : Option Refusal) × IsDescribed setup description told × Tells told (Tells (unbuilt_told description) (AfterBuilt setup description)) x
+      ((told : Option Refusal) × IsDescribed old.told setup description told × Tells told (Tells (unbuilt_told description) (AfterBuilt setup description)) x)
+      ⊎ (PatternsRose old.too_big new.too_big × (patterns_in description ≢ []) × (x ≡ Err Pattern))
 
   abbrev pub FromDescription : (setup : Json) → Result Bundle LoadFault → Type 0
   FromDescription setup = ReadingOverlaid before now old new (description_path setup) (codes "arazzo") (overlays_for None setup) (AfterDescription setup)

@@ -10,7 +10,9 @@ use Rattle.arz_wire.specs.Spelling.{spelling}
 use Rattle.arz_flow.specs.declared.bundle.Bundle.{Bundle}
 use Rattle.arz_start.specs.StartTree.{start_tree}
 use Rattle.arz_doc.specs.Cycles.{TellsCycles}
-use Rattle.arz_doc.specs.Order.{rules}
+use Rattle.arz_cond.specs.Outcomes.{Patterned}
+use Rattle.arz_criteria.specs.Rules.{TellsReadings}
+use Rattle.arz_doc.specs.Order.{whole_rules}
 use Rattle.arz_openapi.specs.Rules.{rules as source_rules}
 use Rattle.arz_sources.specs.Rules.{rules as step_rules}
 use Rattle.arz_bundle.specs.FileRules.{setup_rules, replies_rules}
@@ -33,17 +35,19 @@ earlier (Some r) (Some s) = if nat_le r.rule s.rule then Some r else Some s
 abbrev pub setup_told : (setup : Json) → Option Refusal
 setup_told setup = told (codes "setup") (setup_rules setup)
 
--- the description by itself, where a test tells which workflows depend on themselves
-abbrev pub described : (is_cyclic : ℕ → Bool) → (description : Json) → Option Refusal
-described is_cyclic description = told (codes "arazzo") (rules is_cyclic description)
+-- the description with its criteria, where tests tell which workflows depend on themselves and which patterns have no reading
+abbrev pub described : (is_cyclic : ℕ → Bool) → (refuses : List ℕ → Bool) → (description : Json) → Option Refusal
+described is_cyclic refuses description = told (codes "arazzo") (whole_rules is_cyclic refuses description)
 
 -- the description, and what the setup names in it
-abbrev pub description_told : (is_cyclic : ℕ → Bool) → (setup description : Json) → Option Refusal
-description_told is_cyclic setup description = earlier (told (codes "setup") (naming_rules description setup)) (described is_cyclic description)
+abbrev pub description_told : (is_cyclic : ℕ → Bool) → (refuses : List ℕ → Bool) → (setup description : Json) → Option Refusal
+description_told is_cyclic refuses setup description = earlier (told (codes "setup") (naming_rules description setup)) (described is_cyclic refuses description)
 
--- this is told of them, by a test that is exact
-abbrev pub IsDescribed : (setup description : Json) → Option Refusal → Type 0
-IsDescribed setup description told = (is_cyclic : ℕ → Bool) × TellsCycles description is_cyclic × (told ≡ description_told is_cyclic setup description)
+-- this is told of them, by tests that are exact; patterned: what is told of patterns
+abbrev pub IsDescribed : (patterned : Patterned) → (setup description : Json) → Option Refusal → Type 0
+IsDescribed patterned setup description told =
+    (is_cyclic : ℕ → Bool) × TellsCycles description is_cyclic × (refuses : List ℕ → Bool) × TellsReadings patterned description refuses
+    × (told ≡ description_told is_cyclic refuses setup description)
 
 -- what isn't built yet
 abbrev pub unbuilt_told : (description : Json) → Option Refusal

@@ -37,7 +37,6 @@ unbuilt_members =
     ∷ (workflows ++ member (codes "successActions") ∷ [])
     ∷ (workflows ++ member (codes "failureActions") ∷ [])
     ∷ (steps ++ member (codes "workflowId") ∷ [])
-    ∷ (steps ++ member (codes "successCriteria") ∷ [])
     ∷ (steps ++ member (codes "onSuccess") ∷ [])
     ∷ (steps ++ member (codes "onFailure") ∷ [])
     ∷ []

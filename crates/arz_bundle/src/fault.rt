@@ -17,7 +17,7 @@ pub enum LoadFault {
     /// This is the first rule that a file fails.
     #[error("a file is refused")]
     Refused(Refusal),
-    /// A pattern that an overlay's target needs was too big. The count of such patterns has risen.
+    /// A pattern that an overlay's target or a criterion needs was too big. The count of such patterns has risen.
     #[error("a pattern is too big")]
     Pattern,
     /// Memory ran out.

@@ -25,7 +25,7 @@ use std::alloc::{AllocError, Global};
 /// Reads the setup at a path, and the description and the sources that it leads to, each with its overlays. The
 /// files are read one by one, each is judged by its rules, and at last the steps against the sources that they
 /// call; the first that can't be read or fails a rule decides. A refusal has the document's label: `setup`, `arazzo`, `source NAME` or `overlay K`, with the
-/// overlay's number in the setup's whole list. `rx` searches for the patterns of overlays' targets; `Pattern`
+/// overlay's number in the setup's whole list. `rx` searches for the patterns of overlays' targets and of criteria; `Pattern`
 /// comes only where the count of patterns too big has risen.
 pub fn load<F: Files, P: Patterns>(
     alloc: Global,
@@ -59,7 +59,7 @@ fn from_description<F: Files, P: Patterns>(
 {
     let path = text_at(&setup, "arazzo");
     let description = read_overlaid(alloc, &setup, None, path, "arazzo", files, rx)?;
-    check_description(alloc, &setup, &description)?;
+    check_description(alloc, &setup, &description, rx)?;
     check_built(alloc, &description)?;
     from_sources(alloc, setup, description, files, rx)
 }
@@ -71,7 +71,7 @@ fn from_sources<F: Files, P: Patterns>(
     files: &mut F,
     rx: &mut P,
 ) -> Result<Bundle, LoadFault>
-    requires described { IsDescribed setup description None }
+    requires described { IsDescribed (P.patterns rx.old).told setup description None }
     requires setup_nests { IsWithin 127 setup }
     requires description_nests { IsWithin 127 description }
     ensures loads { OrMemory (AfterBuilt (F.files files.old) (F.files files.new) (P.patterns rx.old) (P.patterns rx.new) setup description) result }

@@ -19,19 +19,23 @@ use arz_sources::check_steps;
 use arz_start::start_length;
 use std::alloc::Global;
 
-/// Looks at the rules of a description, together with those of what a setup names in it.
-pub(crate) fn check_description(
+/// Looks at the rules of a description and its criteria, together with those of what a setup names in it. `Pattern` comes
+/// only where the count of patterns too big has risen, and a criterion has a pattern.
+pub(crate) fn check_description<P: Patterns>(
     alloc: Global,
     setup: &Json,
     description: &Json,
-) -> Result<(), RuleFault>
+    rx: &mut P,
+) -> Result<(), LoadFault>
     requires setup { IsWithin 127 setup.now }
     requires description { IsWithin 127 description.now }
-    ensures { (told : Option Refusal) × IsDescribed setup.now description.now told × Checks told result }
+    ensures { JudgesDescription (P.patterns rx.old) (P.patterns rx.new) setup.now description.now result }
+    ensures asked { Asked (P.patterns rx.old) (P.patterns rx.new) }
 {
     let named = first_misnamed(alloc, setup, description)?;
-    let own = first_refusal(alloc, description)?;
-    refuse_earlier(alloc, named, own)
+    let own = first_refusal_with_criteria(alloc, description, rx)?;
+    refuse_earlier(alloc, named, own)?;
+    Ok(())
 }
 
 /// Looks at what isn't built yet in a description.

@@ -43,13 +43,6 @@ fn unbuilt_members() -> &'static [&'static [Way<'static>]]
             EachItem,
             Member("steps"),
             EachItem,
-            Member("successCriteria"),
-        ],
-        &[
-            Member("workflows"),
-            EachItem,
-            Member("steps"),
-            EachItem,
             Member("onSuccess"),
         ],
         &[

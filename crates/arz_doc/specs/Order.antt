@@ -10,6 +10,7 @@ use Rattle.arz_doc.specs.declared.order.Failure.{Failure}
 use Rattle.arz_components.specs.Described.{Components, component}
 use Rattle.arz_doc.specs.Cycles.{circular}
 use Rattle.arz_names.specs.Names.{placeless_uses, bad_version, wrong_names, duplicates, mixtures, lost_references}
+use Rattle.arz_criteria.specs.Rules.{fraction_conditions, bad_conditions, bad_paths, bad_patterns}
 use Rattle.arz_contents.specs.Contents.{xpaths, type_objects, fractions, bad_expressions, bad_headers, bad_media_types, over_limits}
 
 -- a member that is missing or has another kind, and a use of a parameter that lacks its place
@@ -27,6 +28,16 @@ naming_rules find is_cyclic root =
 abbrev pub value_rules : Json → List Rule
 value_rules root = (10, xpaths root) ∷ (11, type_objects root) ∷ (12, fractions root) ∷ (13, bad_expressions root) ∷ []
 
+-- the same, with the rules of criteria that need no pattern
+abbrev pub judged_rules : Json → List Rule
+judged_rules root =
+    (10, xpaths root) ∷ (11, type_objects root) ∷ (12, fractions root ++ fraction_conditions root) ∷ (13, bad_expressions root)
+    ∷ (14, bad_conditions root) ∷ (15, bad_paths root) ∷ []
+
+-- these take a test of the patterns that have no reading
+abbrev pub pattern_rules : (List ℕ → Bool) → Json → List Rule
+pattern_rules refuses root = (16, bad_patterns refuses root) ∷ []
+
 abbrev pub sending_rules : Json → List Rule
 sending_rules root = (22, bad_headers root) ∷ (23, bad_media_types root) ∷ (24, over_limits root) ∷ []
 
@@ -41,6 +52,13 @@ rules_with find is_cyclic root = name_rules find is_cyclic root ++ content_rules
 
 unfoldable pub rules : (ℕ → Bool) → Json → List Rule
 rules is_cyclic root = rules_with (component root) is_cyclic root
+
+-- the rules of a description and of its criteria
+unfoldable pub whole_rules_with : Components → (ℕ → Bool) → (List ℕ → Bool) → Json → List Rule
+whole_rules_with find is_cyclic refuses root = name_rules find is_cyclic root ++ judged_rules root ++ pattern_rules refuses root ++ sending_rules root
+
+unfoldable pub whole_rules : (ℕ → Bool) → (List ℕ → Bool) → Json → List Rule
+whole_rules is_cyclic refuses root = whole_rules_with (component root) is_cyclic refuses root
 
 -- a failure as a number and a place
 abbrev pub seen_failure : Failure → ℕ × List Token

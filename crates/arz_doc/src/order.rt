@@ -1,12 +1,15 @@
 // The rules in order.
-ghost use Rattle.std.specs.Prelude.{◌≡◌, ℕ, Bool, true, codes, IfOk, option_map};
+ghost use Rattle.std.specs.Prelude.{◌≡◌, ◌≢◌, ℕ, List, [], Bool, true, codes, IfOk, IsErrOf, option_map};
 ghost use Rattle.arz_json.specs.Answer.{Gives};
 ghost use Rattle.arz_json.specs.Tree.{has_form};
 ghost use Rattle.arz_rules.specs.Place.{least, tokens_in};
 ghost use Rattle.arz_rules.specs.Phases.{cause, first_failure, phase};
 ghost use Rattle.arz_components.specs.Indexes.{finds};
 ghost use Rattle.arz_doc.specs.Cycles.{TellsCycles, tells};
-ghost use Rattle.arz_doc.specs.Order.{wrong_shapes, shape_rules, naming_rules, value_rules, sending_rules, name_rules, content_rules, rules_with, rules as rules_of, seen_failure};
+ghost use Rattle.arz_criteria.specs.Rules.{patterns_in, TellsReadings};
+ghost use Rattle.arz_path.specs.Results.{Asked};
+ghost use Rattle.arz_rx.specs.Patterns.{Rose};
+ghost use Rattle.arz_doc.specs.Order.{whole_rules, wrong_shapes, shape_rules, naming_rules, value_rules, sending_rules, name_rules, content_rules, rules_with, rules as rules_of, seen_failure};
 
 use crate::cycles::{Cycles, first_circular};
 use arz_components::Components;
@@ -14,12 +17,14 @@ use arz_contents::{
     first_bad_expression, first_bad_header, first_bad_media_type, first_fraction, first_over_limit,
     first_type_object, first_xpath,
 };
+use arz_criteria::{Readings, first_bad_condition, first_bad_path, first_bad_pattern, first_fraction_condition};
 use arz_json::{Json, Place};
 use arz_names::{
     first_bad_version, first_duplicate, first_lost_reference, first_mixture, first_placeless_use,
     first_wrong_name,
 };
 use arz_rules::{Kind, RuleFault, first_miss, lesser, refuse};
+use arz_rx::{Patterns, SearchFault};
 use std::alloc::{AllocError, Global};
 
 /// A rule that a description fails, and the least place at which it fails it.
@@ -176,6 +181,24 @@ pub fn first_refusal(alloc: Global, root: &Json) -> Result<Option<Failure>, Allo
     let cycles = Cycles::of(alloc, root)?;
     let found = first_with(alloc, &components, &cycles, root)?;
     Ok(found)
+}
+
+/// The least rule that a description or one of its criteria fails, and its least place. `rx` searches for the patterns
+/// of criteria, where no rule before that of patterns fails; `TooBig` comes only where the count of patterns too big has
+/// risen, and only where a criterion has a pattern.
+pub fn first_refusal_with_criteria<P: Patterns>(
+    alloc: Global,
+    root: &Json,
+    rx: &mut P,
+) -> Result<Option<Failure>, SearchFault>
+    requires { has_form root.now ≡ true }
+    ensures { IfOk result (λ f. (is_cyclic : ℕ → Bool) × TellsCycles root.now is_cyclic × (refuses : List ℕ → Bool)
+        × TellsReadings (P.patterns rx.old).told root.now refuses × (option_map seen_failure f ≡ first_failure (whole_rules is_cyclic refuses root.now))) }
+    ensures pattern { IsErrOf result SearchFault.TooBig → Rose (P.patterns rx.old).too_big (P.patterns rx.new).too_big }
+    ensures asks { IsErrOf result SearchFault.TooBig → patterns_in root.now ≢ [] }
+    ensures asked { Asked (P.patterns rx.old) (P.patterns rx.new) }
+{
+    todo
 }
 
 /// Refuses a description that fails a rule by itself: the least rule, at its least place, under the label `arazzo`.

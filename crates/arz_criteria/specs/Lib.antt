@@ -1,0 +1,3 @@
+pub mod Rules
+pub mod Taken
+pub mod Laws
