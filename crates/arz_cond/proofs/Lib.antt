@@ -11,3 +11,4 @@ pub mod Meanings
 pub mod Loops
 pub mod Searches
 pub mod OneForm
+pub mod Functions

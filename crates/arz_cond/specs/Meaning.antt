@@ -1,5 +1,5 @@
 -- What a simple condition comes to (Arazzo 1.0.1, section 4.6.11.1), where `found` gives what each base of an expression names.
-use Rattle.std.specs.Prelude.{List, map, Bool, true, false, not, Option, Some, None}
+use Rattle.std.specs.Prelude.{List, map, Bool, false, not, Option, Some, None}
 use Rattle.std.specs.List.{list_any, list_all}
 use Rattle.arz_json.specs.declared.tree.Json.{Json, out-Json}
 use Rattle.arz_json.specs.declared.tree.Json.TheOpen.{Json-F}

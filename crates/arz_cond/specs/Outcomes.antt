@@ -1,6 +1,6 @@
 -- Criteria as functions of their texts (Arazzo 1.0.1, section 4.6.11): what each comes to, and why one can't be read. Laws
 -- tie them to the grammars.
-use Rattle.std.specs.Prelude.{◌≡◌, ◌≢◌, ◌↔◌, ℕ, List, [], Bool, true, false, ◌&&◌, ◌||◌, codes, if◌then◌else◌, Option, Some, None, option_and_then, Result, Ok, Err}
+use Rattle.std.specs.Prelude.{◌≡◌, ◌≢◌, ◌↔◌, ℕ, List, Bool, true, false, ◌&&◌, ◌||◌, codes, if◌then◌else◌, Option, Some, None, option_and_then, Result, Ok, Err}
 use Rattle.std.specs.Option.{is_some}
 use Rattle.std.specs.Str.{bytes_eq}
 use Rattle.arz_json.specs.declared.tree.Json.{Json}

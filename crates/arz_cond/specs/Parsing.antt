@@ -1,5 +1,5 @@
 -- What the parts of a criterion are read as. Private clauses cite this.
-use Rattle.std.specs.Prelude.{◌≡◌, ◌≢◌, ℕ, List, false, Option, Result, Ok, Err}
+use Rattle.std.specs.Prelude.{◌≡◌, ◌≢◌, ℕ, List, false, Option, Some, None, Result, Ok, Err}
 use Rattle.arz_query.specs.Answers.{IsSpelled, Faults}
 use Rattle.arz_query.specs.declared.fault.PathFault.{PathFault}
 use Rattle.arz_query.specs.declared.fault.PathFault.TheVariants as path_fault
@@ -61,3 +61,8 @@ ReadsQuery text (Err e) = RefusesQuery text e
 abbrev pub Parses : Criterion → Result Parsed TestFault → Type 0
 Parses c (Ok p) = (c.kind ≡ kind_of p) × Spells c p
 Parses c (Err e) = Refuses c e
+
+-- the fault of what was read, which isn't want of memory, or none where it was
+abbrev pub ToldAs : Result Criterion TestFault → Option TestFault → Type 0
+ToldAs (Ok c) o = o ≡ None
+ToldAs (Err e) o = (o ≡ Some e) × (e ≢ fault.Memory)
