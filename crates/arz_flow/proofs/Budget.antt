@@ -16,14 +16,16 @@ use Rattle.arz_flow.specs.declared.answers.Answer.TheVariants.{Reply as Replied,
 use Rattle.arz_flow.specs.declared.answers.End.{End}
 use Rattle.arz_flow.specs.declared.answers.End.TheVariants.{Completed as EndCompleted, Broke as EndBroke, Out as EndOut, Stuck as EndStuck, Budget as EndBudget}
 use Rattle.arz_flow.specs.declared.answers.Spot.{Spot}
+use Rattle.arz_path.specs.Outcome.{Outcome, given, wide, untold}
 use Rattle.arz_flow.specs.declared.bundle.Bundle.{Bundle}
 use Rattle.arz_flow.specs.Documents.{steps_of, workflow_named}
 use Rattle.arz_request.specs.Causes.{Made}
 use Rattle.arz_flow.specs.Requests.{request_of}
 use Rattle.arz_scope.specs.Scopes.{Nothing, found}
-use Rattle.arz_flow.specs.Play.{Result, Completed, Broke, NoStep, Stuck, Budget, Seen, sends_in, State, seen, Play, Spent, Lost, Out, Ends, Gives, Script, Give, Stops, Sends, Waits, Plays, Records, then_play, take_reply, take_served, after, turn, follow, play}
-use Rattle.arz_flow.specs.Cases.{Case, Runs, Enters, Goes_on, Closes, after_run, with_step, with_request, within_budget, spot, surroundings, after_reply, attempt, script}
+use Rattle.arz_flow.specs.Play.{Result, Completed, Broke, NoStep, Untold, Stuck, Budget, Seen, sends_in, State, seen, Play, Spent, Lost, Out, Ends, Gives, Script, Give, Stops, Sends, Waits, Plays, Records, then_play, take_reply, take_served, after, turn, follow, play}
+use Rattle.arz_flow.specs.Cases.{Case, Runs, Enters, Goes_on, Closes, give, after_run, with_step, with_request, within_budget, with_verdict, verdict_of, spot, surroundings, fact_of, with_fact, after_reply, attempt, script}
 use Rattle.arz_flow.specs.Executions.{whole, start, fuel, end_of, end_of_result, asks_of}
+use Rattle.arz_flow.specs.Verdicts.{Patterned}
 use Rattle.arz_flow.specs.Laws.{SendsKept, SendsLeft, BudgetSpent}
 
 -- one request more was sent
@@ -45,6 +47,7 @@ module _ (limit : ℕ) where
   Kept (Out (Send q) s) = sends_in s.asked < limit
   Kept (Out (Wait n) s) = sends_in s.asked ≤ limit
   Kept (Ends NoStep s) = sends_in s.asked ≤ limit
+  Kept (Ends Untold s) = sends_in s.asked ≤ limit
   Kept (Ends (Stuck cause at) s) = sends_in s.asked ≤ limit
   Kept (Ends (Budget n) s) = (n ≡ limit) × (sends_in s.asked ≡ limit)
   Kept (Gives r s) = sends_in s.asked ≤ limit
@@ -55,6 +58,7 @@ module _ (limit : ℕ) where
   then_kept (Out (Send q) s) f g h = g
   then_kept (Out (Wait n) s) f g h = g
   then_kept (Ends NoStep s) f g h = g
+  then_kept (Ends Untold s) f g h = g
   then_kept (Ends (Stuck cause at) s) f g h = g
   then_kept (Ends (Budget n) s) f g h = g
   then_kept (Gives r s) f g h = h r s g
@@ -74,6 +78,7 @@ module _ (limit : ℕ) where
     abbrev Frugal : Script Goal → List Ask → Type 0
     Frugal (Give r) asked = Unit {0}
     Frugal (Stops NoStep) asked = Unit {0}
+    Frugal (Stops Untold) asked = Unit {0}
     Frugal (Stops (Stuck cause at)) asked = Unit {0}
     Frugal (Stops (Budget n)) asked = (n ≡ limit) × (sends_in asked ≡ limit)
     Frugal (Sends q k) asked = (sends_in asked ≢ limit) × ((y : Reply) (v : Seen) → Frugal (k y v) v.asked)
@@ -84,6 +89,7 @@ module _ (limit : ℕ) where
     follow_kept : (f : Goal → State → Play) → ((g : Goal) (s : State) → sends_in s.asked ≤ limit → Kept (f g s)) → (c : Script Goal) (s : State) → sends_in s.asked ≤ limit → Frugal c s.asked → Kept (follow f c s)
     follow_kept f h (Give r) s le fr = le
     follow_kept f h (Stops NoStep) s le fr = le
+    follow_kept f h (Stops Untold) s le fr = le
     follow_kept f h (Stops (Stuck cause at)) s le fr = le
     follow_kept f h (Stops (Budget n)) s le fr = fr
     follow_kept f h (Sends q k) s le fr = reply_kept q s.left s _ (omega (arith, le, fr.0)) (λ y t le'. follow_kept f h (k y (seen t)) t le' (fr.1 y (seen t)))
@@ -101,6 +107,7 @@ module _ (limit : ℕ) where
   asks_kept (Out (Send q) s) k = omega (arith, k)
   asks_kept (Out (Wait n) s) k = k
   asks_kept (Ends NoStep s) k = k
+  asks_kept (Ends Untold s) k = k
   asks_kept (Ends (Stuck cause at) s) k = k
   asks_kept (Ends (Budget n) s) k = omega (arith, k.1)
   asks_kept (Gives r s) k = k
@@ -136,6 +143,7 @@ module _ (limit : ℕ) where
   left_kept w (Out (Send x) s) q k e = k
   left_kept w (Out (Wait n) s) q k e = absurd cc
   left_kept w (Ends NoStep s) q k e = absurd cc
+  left_kept w (Ends Untold s) q k e = absurd cc
   left_kept w (Ends (Stuck cause at) s) q k e = absurd cc
   left_kept w (Ends (Budget n) s) q k e = absurd cc
   left_kept w (Gives o s) q k e = absurd (not_cut w o _ refl e)
@@ -145,11 +153,12 @@ module _ (limit : ℕ) where
   spent_kept w Lost n k e = absurd cc
   spent_kept w (Out q s) n k e = absurd cc
   spent_kept w (Ends NoStep s) n k e = absurd cc
+  spent_kept w (Ends Untold s) n k e = absurd cc
   spent_kept w (Ends (Stuck cause at) s) n k e = absurd cc
   spent_kept w (Ends (Budget m) s) n k e = let same : m ≡ n = cc in (sym same ∙ k.0, k.1)
   spent_kept w (Gives o s) n k e = absurd (not_cut w o _ refl e)
 
-module _ (b : Bundle) where
+module _ (told : Patterned) (b : Bundle) where
   abbrev Spares : Script Case → List Ask → Type 0
   Spares c asked = Frugal b.max_attempts c asked
 
@@ -168,29 +177,35 @@ module _ (b : Bundle) where
       by_test true is = (refl, eqb-true (sends_in v.asked) b.max_attempts is)
       by_test false is = (eqb-false (sends_in v.asked) b.max_attempts is, h)
 
+  verdict_spares : (o : Outcome Bool) (at : Spot) (asked : List Ask) (k : Bool → Script Case) → ((ok : Bool) → Spares (k ok) asked) → Spares (with_verdict o at k) asked
+  verdict_spares (given ok) at asked k h = h ok
+  verdict_spares wide at asked k h = tt
+  verdict_spares untold at asked k h = tt
+
   ends_spares : (w : List ℕ) (inputs : List Member) (o : Result) (v : Seen) → Spares (after_run w inputs o v) v.asked
   ends_spares w inputs (Completed outputs) v = tt
   ends_spares w inputs (Broke outputs) v = tt
 
-  script_spares : (g : Case) (v : Seen) → Spares (script b g v) v.asked
+  script_spares : (g : Case) (v : Seen) → Spares (script told b g v) v.asked
   unfolding script
   script_spares (Runs w inputs) v = λ o u. ends_spares w inputs o u
   script_spares (Enters r i) v =
-      step_spares (slice_get (steps_of b r.workflow) i) v.asked (attempt b r i v) (λ step.
-      request_spares (request_of b (found (surroundings b r v.done) Nothing) (workflow_named r.workflow b.arazzo) step) (spot r step) v.asked (λ q. within_budget b v (Sends q (after_reply b r i step q))) (λ q.
-      send_spares v q (after_reply b r i step q) (λ y u. λ o w. tt)))
+      step_spares (slice_get (steps_of b r.workflow) i) v.asked (attempt told b r i v) (λ step.
+      request_spares (request_of b (found (surroundings b r v.done) Nothing) (workflow_named r.workflow b.arazzo) step) (spot r step) v.asked (λ q. within_budget b v (Sends q (after_reply told b r i step q))) (λ q.
+      send_spares v q (after_reply told b r i step q) (λ y u.
+      verdict_spares (verdict_of told b r u.done step q y) (spot r step) u.asked (λ ok. Plays (Goes_on (with_fact r (fact_of b r u.done step q y)) i ok) give) (λ ok. λ o w. tt))))
   script_spares (Goes_on r i true) v = λ o u. tt
   script_spares (Goes_on r i false) v = λ o u. tt
   script_spares (Closes r ok) v = tt
 
-  whole_kept : (r : List Answer) → Kept b.max_attempts (whole b r)
-  whole_kept r = play_kept b.max_attempts (script b) script_spares (fuel (length r)) (Runs b.workflow b.inputs) (start r) (omega arith)
+  whole_kept : (r : List Answer) → Kept b.max_attempts (whole told b r)
+  whole_kept r = play_kept b.max_attempts (script told b) script_spares (fuel (length r)) (Runs b.workflow b.inputs) (start r) (omega arith)
 
-pub sends_kept : SendsKept
-sends_kept b r = asks_kept b.max_attempts (whole b r) (whole_kept b r)
+pub sends_kept : (told : Patterned) → SendsKept told
+sends_kept told b r = asks_kept b.max_attempts (whole told b r) (whole_kept told b r)
 
-pub sends_left : SendsLeft
-sends_left b r q e = left_kept b.max_attempts b.workflow (whole b r) q (whole_kept b r) e
+pub sends_left : (told : Patterned) → SendsLeft told
+sends_left told b r q e = left_kept b.max_attempts b.workflow (whole told b r) q (whole_kept told b r) e
 
-pub budget_spent : BudgetSpent
-budget_spent b r n e = spent_kept b.max_attempts b.workflow (whole b r) n (whole_kept b r) e
+pub budget_spent : (told : Patterned) → BudgetSpent told
+budget_spent told b r n e = spent_kept b.max_attempts b.workflow (whole told b r) n (whole_kept told b r) e

@@ -6,13 +6,14 @@ use Rattle.arz_flow.specs.declared.answers.Answer.{Answer}
 use Rattle.arz_flow.specs.declared.bundle.Bundle.{Bundle}
 use Rattle.arz_json.specs.Tree.{has_opaque}
 use Rattle.arz_json.specs.declared.Json.TheVariants.{Object}
-use Rattle.arz_flow.specs.Play.{Result, Completed, Broke, NoStep, Stuck, Budget, Play, Spent, Lost, Out, Ends, Gives}
+use Rattle.arz_flow.specs.Play.{Result, Completed, Broke, NoStep, Untold, Stuck, Budget, Play, Spent, Lost, Out, Ends, Gives}
 use Rattle.arz_flow.specs.Cases.{Runs, script}
 use Rattle.arz_flow.specs.declared.answers.End.{End}
 use Rattle.arz_flow.specs.declared.answers.End.TheVariants.{Completed as EndCompleted, Broke as EndBroke, Out as EndOut, Stuck as EndStuck, Budget as EndBudget}
-use Rattle.arz_flow.specs.Executions.{fits, HasPace, start, execution, pace, fuel, whole, asks_of, end_of, end_of_result, TookAll, asks, end, Fitting, IsPrefixOf}
-use Rattle.arz_flow.specs.Laws.{OneEnd, AsManyAsks, OneMore, PrefixFits}
-use Rattle.arz_flow.specs.Stands.{Comes}
+use Rattle.arz_flow.specs.Executions.{fits, HasPace, start, execution, pace, fuel, whole, asks_of, end_of, end_of_result, TookAll, asks, end, Fitting, IsPrefixOf, is_told, IsTold}
+use Rattle.arz_flow.specs.Laws.{OneEnd, AsManyAsks, OneMore, PrefixFits, ToldBefore}
+use Rattle.arz_flow.specs.Stands.{Agrees, Comes}
+use Rattle.arz_flow.specs.Verdicts.{Patterned}
 use Rattle.arz_flow.proofs.Below.{Below, play_below}
 use Rattle.arz_flow.proofs.Grows.{Grows, play_grows}
 use Rattle.arz_flow.proofs.Extends.{Goes, Extends, play_extends}
@@ -22,21 +23,12 @@ use Rattle.arz_flow.proofs.Fuel.{local, owes, outs, Fine, script_bounded, local_
 abbrev In_time : ℕ → ℕ → ℕ → Play → Type 0
 In_time owed left up p = Good pace local owes outs Fine owed left up p
 
-enough : (b : Bundle) (r : List Answer) → In_time 1 (length r) 2 (whole b r)
-enough b r =
-    play_good pace local owes outs Fine (script b)
-    (λ g v n a t fine le gap. script_bounded b pace (omega arith) g v n a t fine le gap)
-    local_pos (fuel (length r)) (Runs b.workflow b.inputs) (start r) tt (omega arith) (omega arith) (omega arith)
-
 good_ends : (o l u : ℕ) (p : Play) → u ≤ pace → In_time o l u p → HasPace pace p
 good_ends o l u Spent le g = g
 good_ends o l u Lost le g = tt
 good_ends o l u (Out q s) le g = g
 good_ends o l u (Ends c s) le g = g
 good_ends o l u (Gives r t) le g = (g.1, omega (arith, g.2, le))
-
-paced : (b : Bundle) (r : List Answer) → HasPace pace (whole b r)
-paced b r = good_ends 1 (length r) 2 (whole b r) (omega arith) (enough b r)
 
 pace_over : (m : ℕ) (p : Play) → HasPace m p → p ≢ Spent
 pace_over m p h e = subst (HasPace m) e h
@@ -47,20 +39,6 @@ below_same Lost q b n = b
 below_same (Out a s) q b n = b
 below_same (Ends c s) q b n = b
 below_same (Gives r s) q b n = b
-
-over_whole : (b : Bundle) (r : List Answer) → whole b r ≢ Spent
-over_whole b r = pace_over pace (whole b r) (paced b r)
-
-same_above : (b : Bundle) (r : List Answer) (n : ℕ) → fuel (length r) ≤ n → execution b r n ≡ whole b r
-same_above b r n le = below_same (whole b r) (execution b r n) (play_below (script b) (fuel (length r)) n _ (start r) le) (over_whole b r)
-
-same_over : (b : Bundle) (r : List Answer) (n : ℕ) → execution b r n ≢ Spent → execution b r n ≡ whole b r
-same_over b r n over =
-    let m = max n (fuel (length r)) in
-    sym (below_same (execution b r n) (execution b r m) (play_below (script b) n m _ (start r) (omega arith)) over) ∙ same_above b r m (omega arith)
-
-pub one_end : OneEnd
-one_end b r = (over_whole b r, same_above b r, same_over b r, paced b r)
 
 nothing_left : (xs : List Ask) (ys : List Answer) → length xs + length ys ≡ 0 → (xs ≡ []) × (ys ≡ [])
 nothing_left [] [] e = (refl, refl)
@@ -105,6 +83,7 @@ takes_one : (w : List ℕ) (q : Ask) (x : Answer) (p p' : Play) → Extends (x �
 takes_one w q x Spent p' h e f n = absurd cc
 takes_one w q x Lost p' h e f n = absurd cc
 takes_one w q x (Ends NoStep s) p' h e f n = absurd cc
+takes_one w q x (Ends Untold s) p' h e f n = absurd cc
 takes_one w q x (Ends (Stuck cause at) s) p' h e f n = absurd cc
 takes_one w q x (Ends (Budget limit) s) p' h e f n = absurd cc
 takes_one w q x (Gives o s) p' h e f n = absurd (result_isnt_out w o q e)
@@ -116,17 +95,6 @@ takes_one w q x (Out a s) p' h e f n =
 
 fuel_le : (m n : ℕ) → m ≤ n → fuel m ≤ fuel n
 fuel_le m n le = let e : n ≡ m + (n - m) = omega arith in rw e (omega arith)
-
-pub one_more : OneMore
-one_more b r q x fit e f =
-    let n = fuel (length (r ++ x ∷ [])) in
-    let n_le : fuel (length r) ≤ n = longer in
-    let ext : Extends (x ∷ []) (execution b r n) (whole b (r ++ x ∷ [])) = play_extends (script b) (x ∷ []) n _ (start r) in
-    let ext' : Extends (x ∷ []) (whole b r) (whole b (r ++ x ∷ [])) = subst (λ p. Extends (x ∷ []) p (whole b (r ++ x ∷ []))) (same_above b r n n_le) ext in
-    takes_one b.workflow q x (whole b r) (whole b (r ++ x ∷ [])) ext' e f (over_whole b (r ++ x ∷ []))
-  where
-    longer : fuel (length r) ≤ fuel (length (r ++ x ∷ []))
-    longer = fuel_le (length r) (length (r ++ x ∷ [])) (omega (arith, length-append r (x ∷ [])))
 
 begins : (asked : List Ask) (n : ℕ) (p : Play) → Grows asked n p → TookAll p → IsPrefixOf asked (asks_of p)
 begins asked n Spent g t = absurd t
@@ -142,9 +110,6 @@ counted n Lost g t = absurd t
 counted n (Out q s) g t = omega (arith, g.count, ap length g.asks, ap length t)
 counted n (Ends c s) g t = omega (arith, g.count, ap length g.asks, ap length t)
 counted n (Gives r s) g t = omega (arith, g.count, ap length g.asks, ap length t)
-
-pub as_many : AsManyAsks
-as_many b r fit = counted (length r) (whole b r) (play_grows (script b) (fuel (length r)) (Runs b.workflow b.inputs) (start r)) fit
 
 goes_on : (ok : Bool) (asked : List Ask) (n : ℕ) (p : Play) → Goes ok asked n p → TookAll p → (ok ≡ true) × IsPrefixOf asked (asks_of p)
 goes_on true asked n p g t = (refl, begins asked n p g t)
@@ -167,33 +132,109 @@ item_behind (x ∷ xs) q ys (suc n) e = item_behind xs q ys n (omega (arith, e))
 number : (xs : List Ask) (q : Ask) (all : List Ask) (n : ℕ) → IsPrefixOf (xs ++ q ∷ []) all → length xs ≡ n → slice_get all n ≡ Some q
 number xs q all n front e = subst (λ l. slice_get l n ≡ Some q) front.1 (item_behind xs q front.0 n e)
 
-pub prefix_fits : PrefixFits
-prefix_fits b p x rest fit =
-    let n = fuel (length (p ++ x ∷ rest)) in
-    let n_le : fuel (length p) ≤ n = fuel_le (length p) (length (p ++ x ∷ rest)) (omega (arith, length-append p (x ∷ rest))) in
-    let ext : Extends (x ∷ rest) (execution b p n) (whole b (p ++ x ∷ rest)) = play_extends (script b) (x ∷ rest) n _ (start p) in
-    let ext' : Extends (x ∷ rest) (whole b p) (whole b (p ++ x ∷ rest)) = subst (λ z. Extends (x ∷ rest) z (whole b (p ++ x ∷ rest))) (same_above b p n n_le) ext in
-    let h = prefix b.workflow x rest (whole b p) (whole b (p ++ x ∷ rest)) ext' (over_whole b p) fit in
-    (h.0, (h.1.0, h.1.1, number (asks b p) h.1.0 (asks b (p ++ x ∷ rest)) (length p) h.1.3 (as_many b p h.0), h.1.2, h.1.3))
+agrees_over : (x p : Play) → Agrees x p → p ≢ Spent → x ≢ Spent
+agrees_over Spent p a over e = over (sym a)
+agrees_over Lost p a over e = absurd cc
+agrees_over (Out q s) p a over e = absurd cc
+agrees_over (Ends c s) p a over e = absurd cc
+agrees_over (Gives o s) p a over e = absurd cc
 
--- what some fuel comes to is what the whole comes to
-pub comes_whole : (b : Bundle) (r : List Answer) (p : Play) → Comes b r p → p ≢ Spent → whole b r ≡ p
-comes_whole b r p c over = sym (same_over b r c.0 (λ e. over (sym c.1 ∙ e))) ∙ c.1
+agrees_same : (x p : Play) → Agrees x p → is_told x ≡ true → x ≡ p
+agrees_same Spent p a t = a
+agrees_same Lost p a t = a
+agrees_same (Out q s) p a t = a
+agrees_same (Ends NoStep s) p a t = a
+agrees_same (Ends Untold s) p a t = absurd cc
+agrees_same (Ends (Stuck cause at) s) p a t = a
+agrees_same (Ends (Budget limit) s) p a t = a
+agrees_same (Gives o s) p a t = a
 
--- an end that some fuel comes to is the end
-pub end_whole : (b : Bundle) (r : List Answer) (n : ℕ) (e : End) → end_of b.workflow (execution b r n) ≡ Some e → end b r ≡ Some e
-end_whole b r n e h = sym (ap (end_of b.workflow) (same_over b r n (λ s. some_none e (sym h ∙ ap (end_of b.workflow) s)))) ∙ h
-  where
-    some_none : (x : End) → Some x ≡ None → ⊥
-    some_none x f = absurd cc
+-- a play that needed no untold pattern over more answers needed none over fewer
+told_extended : (xs : List Answer) (p p' : Play) → Extends xs p p' → is_told p' ≡ true → is_told p ≡ true
+told_extended xs Spent p' h t = refl
+told_extended xs Lost p' h t = refl
+told_extended xs (Out q s) p' h t = refl
+told_extended xs (Ends NoStep s) p' h t = refl
+told_extended xs (Ends Untold s) p' h t = sym (ap is_told h) ∙ t
+told_extended xs (Ends (Stuck cause at) s) p' h t = refl
+told_extended xs (Ends (Budget limit) s) p' h t = refl
+told_extended xs (Gives o s) p' h t = refl
 
-before_first : (b : Bundle) → TookAll (whole b []) × (asks_of (whole b []) ≡ [])
-before_first b = grown [] (whole b []) (play_grows (script b) (fuel 0) (Runs b.workflow b.inputs) (start [])) (over_whole b [])
+module _ (told : Patterned) where
+  enough : (b : Bundle) (r : List Answer) → In_time 1 (length r) 2 (whole told b r)
+  enough b r =
+      play_good pace local owes outs Fine (script told b)
+      (λ g v n a t fine le gap. script_bounded told b pace (omega arith) g v n a t fine le gap)
+      local_pos (fuel (length r)) (Runs b.workflow b.inputs) (start r) tt (omega arith) (omega arith) (omega arith)
 
--- before the first answer nothing was answered
-pub no_asks : (b : Bundle) → asks b [] ≡ []
-no_asks b = (before_first b).1
+  paced : (b : Bundle) (r : List Answer) → HasPace pace (whole told b r)
+  paced b r = good_ends 1 (length r) 2 (whole told b r) (omega arith) (enough b r)
 
--- no answers fit
-pub none_fit : (b : Bundle) → Fitting b []
-none_fit b = (before_first b).0
+  over_whole : (b : Bundle) (r : List Answer) → whole told b r ≢ Spent
+  over_whole b r = pace_over pace (whole told b r) (paced b r)
+
+  same_above : (b : Bundle) (r : List Answer) (n : ℕ) → fuel (length r) ≤ n → execution told b r n ≡ whole told b r
+  same_above b r n le = below_same (whole told b r) (execution told b r n) (play_below (script told b) (fuel (length r)) n _ (start r) le) (over_whole b r)
+
+  same_over : (b : Bundle) (r : List Answer) (n : ℕ) → execution told b r n ≢ Spent → execution told b r n ≡ whole told b r
+  same_over b r n over =
+      let m = max n (fuel (length r)) in
+      sym (below_same (execution told b r n) (execution told b r m) (play_below (script told b) n m _ (start r) (omega arith)) over) ∙ same_above b r m (omega arith)
+
+  pub one_end : OneEnd told
+  one_end b r = (over_whole b r, same_above b r, same_over b r, paced b r)
+
+  pub one_more : OneMore told
+  one_more b r q x fit e f =
+      let n = fuel (length (r ++ x ∷ [])) in
+      let n_le : fuel (length r) ≤ n = longer in
+      let ext : Extends (x ∷ []) (execution told b r n) (whole told b (r ++ x ∷ [])) = play_extends (script told b) (x ∷ []) n _ (start r) in
+      let ext' : Extends (x ∷ []) (whole told b r) (whole told b (r ++ x ∷ [])) = subst (λ p. Extends (x ∷ []) p (whole told b (r ++ x ∷ []))) (same_above b r n n_le) ext in
+      takes_one b.workflow q x (whole told b r) (whole told b (r ++ x ∷ [])) ext' e f (over_whole b (r ++ x ∷ []))
+    where
+      longer : fuel (length r) ≤ fuel (length (r ++ x ∷ []))
+      longer = fuel_le (length r) (length (r ++ x ∷ [])) (omega (arith, length-append r (x ∷ [])))
+
+  pub as_many : AsManyAsks told
+  as_many b r fit = counted (length r) (whole told b r) (play_grows (script told b) (fuel (length r)) (Runs b.workflow b.inputs) (start r)) fit
+
+  pub prefix_fits : PrefixFits told
+  prefix_fits b p x rest fit =
+      let n = fuel (length (p ++ x ∷ rest)) in
+      let n_le : fuel (length p) ≤ n = fuel_le (length p) (length (p ++ x ∷ rest)) (omega (arith, length-append p (x ∷ rest))) in
+      let ext : Extends (x ∷ rest) (execution told b p n) (whole told b (p ++ x ∷ rest)) = play_extends (script told b) (x ∷ rest) n _ (start p) in
+      let ext' : Extends (x ∷ rest) (whole told b p) (whole told b (p ++ x ∷ rest)) = subst (λ z. Extends (x ∷ rest) z (whole told b (p ++ x ∷ rest))) (same_above b p n n_le) ext in
+      let h = prefix b.workflow x rest (whole told b p) (whole told b (p ++ x ∷ rest)) ext' (over_whole b p) fit in
+      (h.0, (h.1.0, h.1.1, number (asks told b p) h.1.0 (asks told b (p ++ x ∷ rest)) (length p) h.1.3 (as_many b p h.0), h.1.2, h.1.3))
+
+  -- what some fuel comes to is what the whole comes to, where all that it needs of patterns is told
+  pub comes_whole : (b : Bundle) (r : List Answer) (p : Play) → Comes told b r p → p ≢ Spent → IsTold told b r → whole told b r ≡ p
+  comes_whole b r p c over is =
+      let same = same_over b r c.0 (agrees_over (execution told b r c.0) p c.1 over) in
+      agrees_same (whole told b r) p (subst (λ x. Agrees x p) same c.1) is
+
+  -- an end that some fuel comes to is the end
+  pub end_whole : (b : Bundle) (r : List Answer) (n : ℕ) (e : End) → end_of b.workflow (execution told b r n) ≡ Some e → end told b r ≡ Some e
+  end_whole b r n e h = sym (ap (end_of b.workflow) (same_over b r n (λ s. some_none e (sym h ∙ ap (end_of b.workflow) s)))) ∙ h
+    where
+      some_none : (x : End) → Some x ≡ None → ⊥
+      some_none x f = absurd cc
+
+  before_first : (b : Bundle) → TookAll (whole told b []) × (asks_of (whole told b []) ≡ [])
+  before_first b = grown [] (whole told b []) (play_grows (script told b) (fuel 0) (Runs b.workflow b.inputs) (start [])) (over_whole b [])
+
+  -- before the first answer nothing was answered
+  pub no_asks : (b : Bundle) → asks told b [] ≡ []
+  no_asks b = (before_first b).1
+
+  -- no answers fit
+  pub none_fit : (b : Bundle) → Fitting told b []
+  none_fit b = (before_first b).0
+
+  -- what is told over more answers was told over fewer
+  pub told_before : ToldBefore told
+  told_before b r more is =
+      let n = fuel (length (r ++ more)) in
+      let n_le : fuel (length r) ≤ n = fuel_le (length r) (length (r ++ more)) (omega (arith, length-append r more)) in
+      let ext : Extends more (execution told b r n) (whole told b (r ++ more)) = play_extends (script told b) more n _ (start r) in
+      told_extended more (whole told b r) (whole told b (r ++ more)) (subst (λ p. Extends more p (whole told b (r ++ more))) (same_above b r n n_le) ext) is

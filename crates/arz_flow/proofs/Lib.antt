@@ -4,8 +4,10 @@ pub mod Extends
 pub mod Bounded
 pub mod Fuel
 pub mod Steady
+pub mod Simple
 pub mod Budget
 pub mod Executions
 pub mod Standing
+pub mod Statuses
 pub mod Examples
 pub mod Within

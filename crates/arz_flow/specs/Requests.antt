@@ -8,7 +8,6 @@ use Rattle.arz_world.specs.declared.Server.{Server}
 use Rattle.arz_expr.specs.declared.syntax.Base.{Base}
 use Rattle.arz_expr.specs.declared.template.Given.{Given}
 use Rattle.arz_components.specs.Described.{component}
-use Rattle.arz_operation.specs.declared.types.Operation.{Operation}
 use Rattle.arz_openapi.specs.Targets.{Target, targets, target_if}
 use Rattle.arz_target.specs.Urls.{Address, address_of}
 use Rattle.arz_description.specs.Calls.{call_of}

@@ -3,7 +3,7 @@ use Rattle.std.specs.Prelude.{ℕ, ◌+◌, ◌≡◌, ◌≢◌, max, List, [],
 use Rattle.arz_flow.specs.declared.answers.Ask.{Ask}
 use Rattle.arz_flow.specs.declared.answers.Answer.{Answer}
 use Rattle.arz_flow.specs.declared.bundle.Bundle.{Bundle}
-use Rattle.arz_flow.specs.Play.{Result, Completion, Seen, State, seen, Halt, NoStep, Untold, Stuck, Budget, Play, Spent, Lost, Out, Ends, Gives, Script, then_play, follow, play}
+use Rattle.arz_flow.specs.Play.{Result, Completion, Seen, State, seen, NoStep, Untold, Stuck, Budget, Play, Spent, Lost, Out, Ends, Gives, Script, then_play, follow, play}
 use Rattle.arz_flow.specs.Cases.{Case, script}
 use Rattle.arz_flow.specs.Executions.{execution}
 use Rattle.arz_flow.specs.Verdicts.{Patterned}

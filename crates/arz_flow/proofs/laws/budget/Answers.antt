@@ -2,4 +2,4 @@ use Rattle.arz_flow.proofs.Budget.{sends_kept, sends_left, budget_spent}
 use Rattle.arz_flow.proofs.laws.budget.Goals as goal
 
 pub returns : goal.returns
-returns c = record { kept = sends_kept; left = sends_left; spent = budget_spent }
+returns g c = let told = (g.P.Patterns.patterns c.args.rx.now).told in record { kept = sends_kept told; left = sends_left told; spent = budget_spent told }

@@ -3,4 +3,4 @@ use Rattle.arz_flow.proofs.Steady.{has_end}
 use Rattle.arz_flow.proofs.laws.l1.Goals as goal
 
 pub returns : goal.returns
-returns c = record { one_end = one_end; has_end = has_end }
+returns g c = let told = (g.P.Patterns.patterns c.args.rx.now).told in record { one_end = one_end told; has_end = has_end told }

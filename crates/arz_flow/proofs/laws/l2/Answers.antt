@@ -2,4 +2,4 @@ use Rattle.arz_flow.proofs.Executions.{one_more, as_many}
 use Rattle.arz_flow.proofs.laws.l2.Goals as goal
 
 pub returns : goal.returns
-returns c = record { one_more = one_more; as_many = as_many }
+returns g c = let told = (g.P.Patterns.patterns c.args.rx.now).told in record { one_more = one_more told; as_many = as_many told }

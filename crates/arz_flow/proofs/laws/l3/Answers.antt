@@ -2,4 +2,4 @@ use Rattle.arz_flow.proofs.Executions.{prefix_fits}
 use Rattle.arz_flow.proofs.laws.l3.Goals as goal
 
 pub returns : goal.returns
-returns c = prefix_fits
+returns g c = prefix_fits (g.P.Patterns.patterns c.args.rx.now).told
