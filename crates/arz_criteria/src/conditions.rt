@@ -74,7 +74,13 @@ pub fn first_fraction_condition(alloc: Global, root: &Json) -> Result<Option<Pla
     requires { has_form root.now ≡ true }
     ensures { IfOk result (λ p. tokens_in p ≡ least (fraction_conditions root.now)) }
 {
-    first_in_criteria(alloc, &Faultless { fault: Fault::Fraction }, root)
+    first_in_criteria(
+        alloc,
+        &Faultless {
+            fault: Fault::Fraction,
+        },
+        root,
+    )
 }
 
 /// The least place of a simple condition that can't be read (section 4.6.11.1).
@@ -82,7 +88,13 @@ pub fn first_bad_condition(alloc: Global, root: &Json) -> Result<Option<Place>, 
     requires { has_form root.now ≡ true }
     ensures { IfOk result (λ p. tokens_in p ≡ least (bad_conditions root.now)) }
 {
-    first_in_criteria(alloc, &Faultless { fault: Fault::Condition }, root)
+    first_in_criteria(
+        alloc,
+        &Faultless {
+            fault: Fault::Condition,
+        },
+        root,
+    )
 }
 
 /// The least place of the condition of a jsonpath criterion that is no query (RFC 9535).

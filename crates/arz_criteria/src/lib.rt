@@ -4,6 +4,7 @@
 
 mod conditions;
 pub mod laws;
+mod patterns;
 mod readings;
 
 pub use conditions::{first_bad_condition, first_bad_path, first_fraction_condition};

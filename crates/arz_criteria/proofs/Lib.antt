@@ -1,0 +1,3 @@
+mod Gathered
+mod Noted
+pub mod Agreed
