@@ -1,3 +1,4 @@
 pub mod Numbered
 pub mod OneTest
 pub mod Orders
+mod Wholes

@@ -63,3 +63,11 @@ whole_rules is_cyclic refuses root = whole_rules_with (component root) is_cyclic
 -- a failure as a number and a place
 abbrev pub seen_failure : Failure → ℕ × List Token
 seen_failure f = (f.rule, f.place.tokens)
+
+-- ---- for private clauses: the rules before that of patterns, and those from it on
+
+unfoldable pub rules_before : Components → (ℕ → Bool) → Json → List Rule
+rules_before find is_cyclic root = name_rules find is_cyclic root ++ judged_rules root
+
+unfoldable pub rules_from : (List ℕ → Bool) → Json → List Rule
+rules_from refuses root = pattern_rules refuses root ++ sending_rules root
