@@ -26,16 +26,21 @@ use Rattle.arz_scope.specs.Scopes.{Nothing, Exchange, found}
 use Rattle.arz_scope.specs.Speaking.{Speaking, run_of as spoken_run, attempt_of}
 use Rattle.arz_scope.specs.declared.facts.Fact.{Fact}
 use Rattle.arz_flow.specs.Cases.{surroundings, spot, run_outputs, outputs_at_end}
-use Rattle.arz_flow.specs.Documents.{text_at, steps_of, workflow_named}
+use Rattle.arz_flow.specs.Documents.{text_at, steps_of, workflow_named, criteria_of}
 use Rattle.arz_flow.specs.Requests.{endpoint_of, given_to, request_of}
 use Rattle.arz_flow.specs.declared.answers.End.TheVariants.{Stuck, Budget}
 use Rattle.arz_flow.specs.declared.answers.Spot.{Spot}
 use Rattle.arz_flow.specs.declared.bundle.Bundle.{Bundle}
 use Rattle.arz_flow.specs.declared.endpoint.Endpoint.{Endpoint}
+use Rattle.arz_flow.specs.Verdicts.{Patterned}
 use Rattle.arz_flow.proofs.Within.{step-within, workflow-within}
+use Rattle.arz_cond.specs.Criteria.{Criterion}
+use Rattle.arz_request.specs.declared.cause.Cause.TheVariants.{TooWide}
 use Rattle.arz_machine.specs.Joining.{joined_of}
 use Rattle.arz_machine.specs.Spoken.{spoken}
-use Rattle.arz_machine.specs.States.{Sends, Ended, run_of, is_spent, rest_by, request_in, next_fact}
+use Rattle.arz_machine.specs.States.{Sends, Ended, run_of, is_spent, rest_by, request_in, next_fact, verdict_in, widened}
+use Rattle.arz_machine.specs.Tests.{tests_of, judged}
+use Rattle.arz_machine.proofs.Judging.{judged_same}
 
 -- ---- what is read is well-formed
 
@@ -113,6 +118,20 @@ module _ (b : Bundle) (facts : List Fact) (read step : Json) (same : read ≡ st
       ap (λ z. made_fact z outputs) (named ∙ ap (text_at (codes "stepId")) same)
       ∙ ap (made_fact (text_at (codes "stepId") step))
       (given ∙ ap (λ z. outputs_of (found (spoken_run z) (attempt_of z.exchange)) read) speaks ∙ ap (outputs_of there) same)
+
+  -- where a selection of a criterion of the step that was read is too wide
+  pub wide_at : (at_read : Spot) → at_read ≡ spot (run_of b facts) read → Ended (Stuck TooWide at_read) ≡ widened b facts step
+  wide_at at_read e = ap (λ z. Ended (Stuck TooWide z)) (e ∙ ap (spot (run_of b facts)) same)
+
+  -- the verdict by the criteria that were read
+  pub judged_as : (patterns : Patterned) (s : Speaking) (q : Request) (y : Reply) (tests : List Criterion) → s ≡ spoken b facts (Some (q, y)) → tests ≡ tests_of read
+      → judged patterns (found (spoken_run s) (attempt_of s.exchange)) y tests ≡ verdict_in patterns b facts step q y
+  unfolding spoken
+  judged_as patterns s q y tests speaks listed =
+      let there = found (surroundings b (run_of b facts) []) (Exchange q y) in
+      ap (λ (z : Speaking). judged patterns (found (spoken_run z) (attempt_of z.exchange)) y tests) speaks
+      ∙ ap (judged patterns there y) (listed ∙ ap tests_of same)
+      ∙ judged_same patterns there y (criteria_of step)
 
 -- the cause why there is no request
 pub stuck_by : (fault : BuildFault) (cause : Cause) (made : Made Request) → Fails (told fault) made → fault ≡ StuckFault cause → made ≡ Err cause

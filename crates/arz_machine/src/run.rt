@@ -6,8 +6,7 @@ ghost use Rattle.arz_components.specs.Indexes.{finds};
 ghost use Rattle.arz_components.specs.declared.components.Part.{Part};
 ghost use Rattle.arz_flow.specs.Documents.{workflow_named, steps_of};
 ghost use Rattle.arz_flow.specs.Requests.{endpoint_of};
-ghost use Rattle.arz_flow.specs.Valid.{IsValid};
-ghost use Rattle.arz_machine.specs.Tests.{tests_of};
+ghost use Rattle.arz_machine.specs.Tests.{tests_of, IsSound};
 ghost use Rattle.arz_scope.specs.Shallow.{HaveShallow};
 
 use arz_components::Components;
@@ -34,7 +33,7 @@ pub(crate) struct Run<'a> {
     pub tests: Many<Many<Test>>,
     /// What each attempt left, in order.
     pub facts: Many<Fact>,
-    ghost valid: { IsValid bundle.now },
+    ghost sound: { IsSound bundle.now },
     ghost found: { (part : Part) (q : List ℕ) → finds components part q ≡ component bundle.now.arazzo part q },
     ghost named: { option_copied workflow ≡ workflow_named bundle.now.workflow bundle.now.arazzo },
     ghost listed: { steps.now ≡ steps_of bundle.now bundle.now.workflow },

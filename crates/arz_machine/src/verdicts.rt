@@ -1,9 +1,10 @@
 // Whether an attempt succeeded (Arazzo 1.0.1, 4.6.5.1: successCriteria).
-ghost use Rattle.std.specs.Prelude.{◌≡◌, map, true};
+ghost use Rattle.std.specs.Prelude.{◌≡◌, All, IsErrOf, true};
+ghost use Rattle.arz_cond.specs.Criteria.{IsRead};
 ghost use Rattle.arz_cond.specs.Holding.{Answers};
 ghost use Rattle.arz_flow.specs.Verdicts.{is_success as has_success};
 ghost use Rattle.arz_path.specs.Results.{Asked};
-ghost use Rattle.arz_machine.specs.Tests.{all_met, judged};
+ghost use Rattle.arz_machine.specs.Tests.{all_met, judged, any_matched};
 
 use arz_cond::{CondFault, Test};
 use arz_expr::Scope;
@@ -20,7 +21,9 @@ pub(crate) fn succeeds<S: Scope, P: Patterns>(
     scope: &S,
     rx: &mut P,
 ) -> Result<bool, CondFault>
+    requires { All IsRead tests.now }
     ensures says { Answers result (judged (P.patterns rx.old).told (S.found scope.now) reply.now tests.now) (P.patterns rx.old) (P.patterns rx.new) }
+    ensures matched { IsErrOf result CondFault.Pattern → any_matched tests.now ≡ true }
     ensures asked { Asked (P.patterns rx.old) (P.patterns rx.new) }
 {
     if tests.is_empty() {
@@ -35,7 +38,9 @@ fn all_hold<S: Scope, P: Patterns>(
     scope: &S,
     rx: &mut P,
 ) -> Result<bool, CondFault>
+    requires { All IsRead tests.now }
     ensures says { Answers result (all_met (P.patterns rx.old).told (S.found scope.now) tests.now) (P.patterns rx.old) (P.patterns rx.new) }
+    ensures matched { IsErrOf result CondFault.Pattern → any_matched tests.now ≡ true }
     ensures asked { Asked (P.patterns rx.old) (P.patterns rx.new) }
 {
     for test in tests {

@@ -12,7 +12,7 @@ returns-clause-well_formed c =
     let b = run.bundle.now in
     let w = c.in-Some.workflow.now in
     given_if (λ given. IsWellFormed (Object given)) c.outputs.result c.outputs.ensures.well_formed
-    (well_formed w (workflow-within 127 b.workflow b.arazzo w (sym run.named ∙ ap option_copied c.in-Some.is) run.valid.arazzo))
+    (well_formed w (workflow-within 127 b.workflow b.arazzo w (sym run.named ∙ ap option_copied c.in-Some.is) run.sound.arazzo))
 
 pub returns-clause-value : goal.returns-clause-value
 returns-clause-value c =

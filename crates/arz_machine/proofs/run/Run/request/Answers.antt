@@ -10,20 +10,20 @@ use Rattle.arz_machine.proofs.Entering.{step_sound, workflow_sound, components_s
 use Rattle.arz_machine.proofs.run.Run.request.Goals as goal
 
 pub given-requires-clause-components : goal.given-requires-clause-components
-given-requires-clause-components c = let run = c.args.self.now in components_sound run.bundle.now (finds run.components) run.valid.arazzo run.found
+given-requires-clause-components c = let run = c.args.self.now in components_sound run.bundle.now (finds run.components) run.sound.arazzo run.found
 
 pub given-requires-clause-workflow : goal.given-requires-clause-workflow
-given-requires-clause-workflow c = let run = c.args.self.now in workflow_sound run.bundle.now (option_copied run.workflow) run.valid.arazzo run.named
+given-requires-clause-workflow c = let run = c.args.self.now in workflow_sound run.bundle.now (option_copied run.workflow) run.sound.arazzo run.named
 
 pub given-requires-clause-step : goal.given-requires-clause-step
 given-requires-clause-step c =
     let run = c.args.self.now in
-    step_sound run.bundle.now run.steps.now c.args.index c.index-self-index.result run.valid.arazzo run.listed c.requires
+    step_sound run.bundle.now run.steps.now c.args.index c.index-self-index.result run.sound.arazzo run.listed c.requires
 
 pub read_body-requires : goal.read_body-requires
 read_body-requires c =
     let run = c.args.self.now in
-    step_sound run.bundle.now run.steps.now c.args.index c.index-self-index.result run.valid.arazzo run.listed c.requires
+    step_sound run.bundle.now run.steps.now c.args.index c.index-self-index.result run.sound.arazzo run.listed c.requires
 
 pub returns-clause-builds : goal.returns-clause-builds
 returns-clause-builds c = λ step at.
