@@ -1,5 +1,6 @@
--- What a description has that passes its rules: the workflow that is run is there, and has 1 to 256 steps.
-use Rattle.std.proofs.Common.{◌≡◌, ℕ, zero, suc, ◌<◌, ◌≤◌, Bool, true, false, ◌&&◌, ◌||◌, List, [], ◌∷◌, ◌++◌, length, map, get_or, cond, Option, Some, None, codes, refl, sym, ap, subst, ◌∙◌, arith}
+-- What a description has that passes its rules: the workflow that is run is there, and has 1 to 256 steps, whose criteria can
+-- be read.
+use Rattle.std.proofs.Common.{◌≡◌, ℕ, zero, suc, ◌<◌, ◌≤◌, Bool, true, false, ◌&&◌, ◌||◌, List, [], ◌∷◌, ◌++◌, length, map, get_or, cond, Option, Some, None, All, codes, refl, sym, ap, subst, ◌∙◌, arith}
 use Rattle.std.specs.Prelude.{find, nat_le, option_and_then, unwrap_or}
 use Rattle.std.specs.List.{list_any}
 use Rattle.std.specs.Str.{bytes_eq}
@@ -20,18 +21,24 @@ use Rattle.arz_rules.specs.Phases.{Rule, Failure, first_failure}
 use Rattle.arz_rules.specs.Place.{under}
 use Rattle.arz_rules.specs.Sets.{is_among, texts_at, bad_text, unless}
 use Rattle.arz_rules.specs.Shapes.{Row, must, may}
-use Rattle.arz_rules.specs.Sites.{each_item, at, in_items, in_member, found, if_there, all_items, items}
+use Rattle.arz_rules.specs.Sites.{each_item, at, at_each, in_items, in_member, found, if_there, all_items, items}
 use Rattle.arz_components.specs.Described.{Components, component}
-use Rattle.arz_sites.specs.Sites.{only, workflows}
-use Rattle.arz_doc.specs.Order.{wrong_shapes, shape_rules, naming_rules as own_naming_rules, value_rules, sending_rules, name_rules, content_rules, rules_with, rules}
+use Rattle.arz_sites.specs.Sites.{only, workflows, steps, values, each_criterion}
+use Rattle.arz_sites.specs.Wants.{fits as fits_kind, outputs}
+use Rattle.arz_sites.specs.declared.checks.Wanted.{Wanted}
+use Rattle.arz_doc.specs.Order.{wrong_shapes, shape_rules, naming_rules as own_naming_rules, judged_rules, pattern_rules, sending_rules, name_rules, whole_rules_with, whole_rules}
 use Rattle.arz_names.specs.Names.{placeless_uses, bad_version, wrong_names}
-use Rattle.arz_contents.specs.Contents.{bad_headers, bad_media_types, over_limits, long_lists, large_numbers, longer}
+use Rattle.arz_contents.specs.Contents.{xpaths, type_objects, fractions, bad_expressions, bad_context, bad_texts, no_object, bad_headers, bad_media_types, over_limits, long_lists, large_numbers, longer}
+use Rattle.arz_criteria.specs.Rules.{fraction_conditions, bad_conditions, bad_paths, faulty, is_fraction, is_bad_condition, is_bad_path}
 use Rattle.arz_doc.proofs.Orders.{or_later, first-append}
 use Rattle.arz_flow.specs.Documents.{workflow_named, steps_in}
-use Rattle.arz_flow.specs.Valid.{steps_limit}
+use Rattle.arz_flow.specs.Valid.{IsCriterion, steps_limit}
 use Rattle.arz_bundle.specs.Naming.{naming_rules, unknown_names, unknown_workflow, unknown_sources, missing_inputs, workflow_ids}
 use Rattle.arz_bundle.specs.Phases.{told, earlier, described, IsDescribed}
 use Rattle.arz_bundle.specs.Setup.{workflow_run, first_text}
+use Rattle.arz_cond.specs.Outcomes.{Patterned}
+use Rattle.arz_bundle.proofs.CriteriaFacts.{OfWorkflow, each-passes, criterion-read}
+use Rattle.arz_bundle.proofs.CriterionKinds.{OfStep, step-criteria}
 use Rattle.arz_bundle.proofs.KindFacts.{left, right, none-left, none-right, none-under, none-told, fits, passed, level, rows-of, member-met, named-there, HasItems, items-of, item-met}
 
 -- ---- phases and rows of rules in which nothing fails
@@ -60,23 +67,57 @@ shape-met find_ is_cyclic d e =
     let by = both-pass (shape_rules find_ d) (own_naming_rules find_ is_cyclic d) e in
     none-left (misses d Kind.Description) (placeless_uses find_ d) (passed (3, wrong_shapes find_ d) ((4, bad_version d) ∷ (5, wrong_names d) ∷ []) by.0).0
 
-limits-met : (d : Json) → first_failure (content_rules d) ≡ None → over_limits d ≡ []
-unfolding content_rules
+-- the rules of a description that its steps are to pass
+record IsMet (d : Json) : Type 0 where
+  shapes : misses d Kind.Description ≡ []
+  kinds : xpaths d ≡ []
+  objects : type_objects d ≡ []
+  fractions : fraction_conditions d ≡ []
+  expressions : bad_expressions d ≡ []
+  conditions : bad_conditions d ≡ []
+  paths : bad_paths d ≡ []
+  limits : over_limits d ≡ []
+
+limits-met : (d : Json) → first_failure (sending_rules d) ≡ None → over_limits d ≡ []
 limits-met d e =
-    let by = both-pass (value_rules d) (sending_rules d) e in
-    let headers = passed (22, bad_headers d) ((23, bad_media_types d) ∷ (24, over_limits d) ∷ []) by.1 in
+    let headers = passed (22, bad_headers d) ((23, bad_media_types d) ∷ (24, over_limits d) ∷ []) e in
     let types = passed (23, bad_media_types d) ((24, over_limits d) ∷ []) headers.1 in
     (passed (24, over_limits d) [] types.1).0
 
-both-met : (find_ : Components) (is_cyclic : ℕ → Bool) (d : Json) → first_failure (rules_with find_ is_cyclic d) ≡ None → (misses d Kind.Description ≡ []) × (over_limits d ≡ [])
-unfolding rules_with
-both-met find_ is_cyclic d e =
-    let by = both-pass (name_rules find_ is_cyclic d) (content_rules d) e in
-    (shape-met find_ is_cyclic d by.0, limits-met d by.1)
+all-met : (d : Json) → misses d Kind.Description ≡ [] → first_failure (judged_rules d) ≡ None → over_limits d ≡ [] → IsMet d
+all-met d shapes e limits =
+    let last : List Rule = (15, bad_paths d) ∷ [] in
+    let conditions : List Rule = (14, bad_conditions d) ∷ last in
+    let expressions : List Rule = (13, bad_expressions d) ∷ conditions in
+    let numbers : List Rule = (12, fractions d ++ fraction_conditions d) ∷ expressions in
+    let first = passed (10, xpaths d) ((11, type_objects d) ∷ numbers) e in
+    let second = passed (11, type_objects d) numbers first.1 in
+    let third = passed (12, fractions d ++ fraction_conditions d) expressions second.1 in
+    let fourth = passed (13, bad_expressions d) conditions third.1 in
+    let fifth = passed (14, bad_conditions d) last fourth.1 in
+    record {
+      shapes = shapes;
+      kinds = first.0;
+      objects = second.0;
+      fractions = none-right (fractions d) (fraction_conditions d) third.0;
+      expressions = fourth.0;
+      conditions = fifth.0;
+      paths = (passed (15, bad_paths d) [] fifth.1).0;
+      limits = limits;
+    }
 
-met : (is_cyclic : ℕ → Bool) (d : Json) → first_failure (rules is_cyclic d) ≡ None → (misses d Kind.Description ≡ []) × (over_limits d ≡ [])
-unfolding rules
-met is_cyclic d e = both-met (component d) is_cyclic d e
+met-with : (find_ : Components) (is_cyclic : ℕ → Bool) (refuses : List ℕ → Bool) (d : Json) → first_failure (whole_rules_with find_ is_cyclic refuses d) ≡ None → IsMet d
+unfolding whole_rules_with
+met-with find_ is_cyclic refuses d e =
+    let names = name_rules find_ is_cyclic d in
+    let sent = both-pass (names ++ judged_rules d ++ pattern_rules refuses d) (sending_rules d) e in
+    let searched = both-pass (names ++ judged_rules d) (pattern_rules refuses d) sent.0 in
+    let judged = both-pass names (judged_rules d) searched.0 in
+    all-met d (shape-met find_ is_cyclic d judged.0) judged.1 (limits-met d sent.1)
+
+met : (is_cyclic : ℕ → Bool) (refuses : List ℕ → Bool) (d : Json) → first_failure (whole_rules is_cyclic refuses d) ≡ None → IsMet d
+unfolding whole_rules
+met is_cyclic refuses d e = met-with (component d) is_cyclic refuses d e
 
 -- ---- lists of a kind
 
@@ -171,14 +212,52 @@ few-of d has e i x lt =
     (subst (λ o. in_member (at (each_item ∷ only (codes "steps")) (longer 256)) (codes "workflows") o ≡ []) has.named steps) in
     few-in 0 has.each i x (subst (λ o. in_items check 0 (unwrap_or o []) ≡ []) has.are below) lt
 
--- 1 to 256 steps
-abbrev HasSteps : Json → Type 0
-HasSteps w = (0 < length (items_at (codes "steps") w)) × (length (items_at (codes "steps") w) ≤ steps_limit)
-
 some-steps : (w : Json) → misses w Kind.Workflow ≡ [] → 0 < length (items_at (codes "steps") w)
 some-steps w e =
     let has = workflow-steps w e in
     subst (λ js. 0 < length js) (sym (list-is (codes "steps") Kind.Step w has)) has.some
+
+-- ---- the criteria of steps
+
+abbrev IsKnown : Json → Type 0
+IsKnown c = misses c Kind.Criterion ≡ []
+
+workflow-known : (w : Json) → misses w Kind.Workflow ≡ [] → OfWorkflow IsKnown w
+workflow-known w e =
+    let has = workflow-steps w e in
+    subst (All (OfStep IsKnown)) (sym (list-is (codes "steps") Kind.Step w has)) (λ k d lt. step-criteria (get_or has.each k d) (has.met k d lt))
+
+each-known : (d : Json) (has : HasList (codes "workflows") Kind.Workflow d) → All (OfWorkflow IsKnown) (items_at (codes "workflows") d)
+each-known d has =
+    subst (All (OfWorkflow IsKnown)) (sym (list-is (codes "workflows") Kind.Workflow d has)) (λ k w lt. workflow-known (get_or has.each k w) (has.met k w lt))
+
+each-context : (d : Json) → bad_expressions d ≡ [] → each_criterion bad_context d ≡ []
+each-context d e =
+    let written = at_each outputs (bad_text (fits_kind Wanted.Expression)) d in
+    let criteria = each_criterion bad_context d in
+    let texts = at_each values bad_texts d in
+    let paths = at (steps ++ only (codes "operationPath")) (bad_text (fits_kind Wanted.OperationPath)) d in
+    none-right written criteria (none-left (written ++ criteria) texts (none-left (written ++ criteria ++ texts) paths e))
+
+-- they can be read
+each-read : (d : Json) (has : HasList (codes "workflows") Kind.Workflow d) → IsMet d → All (OfWorkflow IsCriterion) (items_at (codes "workflows") d)
+each-read d has is =
+    let known = each-known d has in
+    let kinds = each-passes (at (only (codes "type")) (bad_text (fits_kind Wanted.NotXpath))) d is.kinds in
+    let objects = each-passes (at (only (codes "type")) no_object) d is.objects in
+    let fractions = each-passes (faulty is_fraction) d is.fractions in
+    let contexts = each-passes bad_context d (each-context d is.expressions) in
+    let conditions = each-passes (faulty is_bad_condition) d is.conditions in
+    let paths = each-passes (faulty is_bad_path) d is.paths in
+    λ i w iw k s ks m c lt. criterion-read _ (record {
+      met = known i w iw k s ks m c lt;
+      kind = kinds i w iw k s ks m c lt;
+      object = objects i w iw k s ks m c lt;
+      fraction = fractions i w iw k s ks m c lt;
+      context = contexts i w iw k s ks m c lt;
+      condition = conditions i w iw k s ks m c lt;
+      path = paths i w iw k s ks m c lt;
+    })
 
 -- ---- the workflow that is run
 
@@ -251,16 +330,23 @@ module _ (setup d : Json) (named : first_failure (naming_rules d setup) ≡ None
   run-called : list_any (is_called (workflow_run setup d)) (items_at (codes "workflows") d) ≡ true
   run-called = run-by (option_and_then text_in (member_in (codes "workflow") setup)) refl
 
+-- such steps have such criteria
+abbrev pub AreSteps : List Json → Type 0
+AreSteps js = (0 < length js) × (length js ≤ steps_limit) × All (OfStep IsCriterion) js
+
+abbrev HasCriteria : Json → Type 0
+HasCriteria w = AreSteps (items_at (codes "steps") w)
+
 -- the steps of the workflow that is run
-pub run-steps : (setup d : Json) → IsDescribed setup d None
-    → (0 < length (steps_in (workflow_named (workflow_run setup d) d))) × (length (steps_in (workflow_named (workflow_run setup d) d)) ≤ steps_limit)
-run-steps setup d (is_cyclic, tells, none) =
-    let phases = none-earlier (told (codes "setup") (naming_rules d setup)) (described is_cyclic d) (sym none) in
-    let own = met is_cyclic d (none-told (codes "arazzo") (rules is_cyclic d) phases.1) in
-    let has = workflows-of d own.0 in
+pub run-steps : (patterned : Patterned) (setup d : Json) → IsDescribed patterned setup d None → AreSteps (steps_in (workflow_named (workflow_run setup d) d))
+run-steps patterned setup d (is_cyclic, tells, refuses, readings, none) =
+    let phases = none-earlier (told (codes "setup") (naming_rules d setup)) (described is_cyclic refuses d) (sym none) in
+    let own = met is_cyclic refuses d (none-told (codes "arazzo") (whole_rules is_cyclic refuses d) phases.1) in
+    let has = workflows-of d own.shapes in
     let are = list-is (codes "workflows") Kind.Workflow d has in
     let called = run-called setup d (none-told (codes "setup") (naming_rules d setup) phases.0) (subst (λ js. 0 < length js) (sym are) has.some) in
-    let one = find-one (is_called (workflow_run setup d)) HasSteps has.each (subst (λ js. list_any (is_called (workflow_run setup d)) js ≡ true) are called)
-    (λ i x lt. (some-steps (get_or has.each i x) (has.met i x lt), few-of d has own.1 i x lt)) in
+    let read = subst (All (OfWorkflow IsCriterion)) are (each-read d has own) in
+    let one = find-one (is_called (workflow_run setup d)) HasCriteria has.each (subst (λ js. list_any (is_called (workflow_run setup d)) js ≡ true) are called)
+    (λ i x lt. (some-steps (get_or has.each i x) (has.met i x lt), few-of d has own.limits i x lt, read i x lt)) in
     let is : workflow_named (workflow_run setup d) d ≡ Some one.0 = ap (find (is_called (workflow_run setup d))) are ∙ one.1 in
-    subst (λ o. (0 < length (steps_in o)) × (length (steps_in o) ≤ steps_limit)) (sym is) one.2
+    subst (λ o. AreSteps (steps_in o)) (sym is) one.2

@@ -1,4 +1,6 @@
 pub mod ComponentForms
+pub mod CriteriaFacts
+pub mod CriterionKinds
 pub mod DescriptionFacts
 pub mod KindFacts
 pub mod LoadingLaws

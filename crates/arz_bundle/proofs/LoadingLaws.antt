@@ -25,6 +25,7 @@ use Rattle.arz_bundle.specs.declared.fault.LoadFault.{LoadFault}
 use Rattle.arz_bundle.specs.declared.fault.LoadFault.TheVariants.{File, Refused, Memory}
 use Rattle.arz_bundle.specs.Laws.{MissingFail, LoadsSome, GivesSome, LoadsValid, GivesStatuses}
 use Rattle.arz_bundle.specs.Loading.{file_limit, IsFile, NoFile, Tells, Judged, Reading, Taken, Applied, Overlaid, ReadingOverlaid, source_name, named, FromSources, AfterSources, AfterBuilt, AfterDescription, FromDescription, AfterSetup, AfterReplies}
+use Rattle.arz_criteria.proofs.Agreed.{readings_are_told}
 use Rattle.arz_doc.proofs.Numbered.{some_test}
 use Rattle.arz_bundle.specs.Overlays.{Listed, overlays_for, overlay_label}
 use Rattle.arz_bundle.specs.Phases.{setup_told, description_told, IsDescribed, unbuilt_told, source_label, source_told, steps_told, size_told, replies_told}
@@ -172,10 +173,11 @@ module _ (keeps : KeepsWithin) (old new : PatternsView) where
     described-some : (setup description : Json) → IsSome (AfterDescription before now old new setup description)
     described-some setup description =
         let test = some_test description in
-        let told = description_told test.0 setup description in
+        let readings = readings_are_told old.told description in
+        let told = description_told test.0 readings.0 setup description in
         let Then = AfterBuilt before now old new setup description in
         let some = tells-some told (Tells (unbuilt_told description) Then) (tells-some (unbuilt_told description) Then (built-some setup description)) in
-        (some.0, (told, (test.0, test.1, refl), some.1), some.2)
+        (some.0, inl (told, (test.0, test.1, readings.0, readings.1, refl), some.1), some.2)
 
     description-some : (setup : Json) → IsSome (FromDescription before now old new setup)
     description-some setup =
@@ -255,21 +257,25 @@ module _ (before now : FilesView) (old new : PatternsView) where
       (path_of_source setup source) label (overlays_for (Some (source_name source)) setup) came
 
   module _ (b : Bundle) where
-    built-valid : (setup description : Json) → IsDescribed setup description None → IsWithin 127 setup → IsWithin 127 description
+    built-valid : (setup description : Json) → IsDescribed old.told setup description None → IsWithin 127 setup → IsWithin 127 description
         → AfterBuilt before now old new setup description (Ok b) → IsValid b
     built-valid setup description described setup-within description-within came =
         sources-gave b (IsValid b) setup (items_at (codes "sourceDescriptions") description) (AfterSources setup description)
         (λ sources within goes. tells-gave b (IsValid b) (steps_told setup description sources) _ goes
         (λ none later. tells-gave b (IsValid b) (size_told (bundle_of setup description sources)) _ later
-        (λ fits is. subst IsValid (sym (same-ok b (bundle_of setup description sources) is)) (valid-bundle setup description sources described setup-within description-within within)))) came
+        (λ fits is. subst IsValid (sym (same-ok b (bundle_of setup description sources) is)) (valid-bundle old.told setup description sources described setup-within description-within within)))) came
+
+    described-valid : (setup description : Json) → IsWithin 127 setup → IsWithin 127 description → AfterDescription before now old new setup description (Ok b) → IsValid b
+    described-valid setup description within description-within (inl (told, described, tells)) =
+        tells-gave b (IsValid b) told _ tells
+        (λ none later. tells-gave b (IsValid b) (unbuilt_told description) (AfterBuilt before now old new setup description) later
+        (λ built goes. built-valid setup description (subst (λ o. IsDescribed old.told setup description o) none described) within description-within goes))
+    described-valid setup description within description-within (inr (rose, asks, is)) = absurd (cc)
 
     description-valid : (setup : Json) → IsWithin 127 setup → FromDescription before now old new setup (Ok b) → IsValid b
     description-valid setup within came =
         document-gave b (IsValid b) (AfterDescription before now old new setup)
-        (λ tree tree-within (told, described, tells). tells-gave b (IsValid b) told _ tells
-        (λ none later. tells-gave b (IsValid b) (unbuilt_told tree) (AfterBuilt before now old new setup tree) later
-        (λ built goes. built-valid setup tree (subst (λ o. IsDescribed setup tree o) none described) within tree-within goes)))
-        (description_path setup) (codes "arazzo") (overlays_for None setup) came
+        (λ tree tree-within goes. described-valid setup tree within tree-within goes) (description_path setup) (codes "arazzo") (overlays_for None setup) came
 
 pub loads_valid : LoadsValid
 loads_valid before now old new path b came =

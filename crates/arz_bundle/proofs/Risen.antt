@@ -100,10 +100,11 @@ module _ (before now : FilesView) (old new : PatternsView) (x : Result Bundle Lo
       sources-caused before now old new x setup (items_at (codes "sourceDescriptions") description) (AfterSources setup description) (after-caused setup description) came
 
   described-caused : (setup description : Json) → AfterDescription before now old new setup description x → HasCause before now old new x
-  described-caused setup description (told, described, came) =
+  described-caused setup description (inl (told, described, came)) =
       let Then = AfterBuilt before now old new setup description in
       tells-caused before now old new x told (Tells (unbuilt_told description) Then)
       (tells-caused before now old new x (unbuilt_told description) Then (built-caused setup description)) came
+  described-caused setup description (inr (rose, asks, is)) = caused before now old new x Pattern rose is
 
   description-caused : (setup : Json) → FromDescription before now old new setup x → HasCause before now old new x
   description-caused setup came =

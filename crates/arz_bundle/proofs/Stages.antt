@@ -1,5 +1,5 @@
 -- What comes of one file and of the phases after it.
-use Rattle.std.proofs.Common.{◌≡◌, inl, inr, ◌≤◌, ℕ, List, [], length, codes, Option, Some, None, Result, Ok, Err, IsErrAnd, refl, sym, ap, ◌∙◌, subst}
+use Rattle.std.proofs.Common.{◌≡◌, ◌≢◌, inl, inr, ◌≤◌, ℕ, Bool, List, [], length, codes, Option, Some, None, Result, Ok, Err, IsErrAnd, refl, sym, ap, ◌∙◌, subst}
 use Rattle.std.specs.Prelude.{option_map}
 use Rattle.std.specs.Str.{IsUtf8}
 use Rattle.serde_json.specs.Read.{read}
@@ -14,11 +14,16 @@ use Rattle.arz_doc.specs.declared.order.Failure.{Failure}
 use Rattle.arz_rules.specs.Phases.{Rule, refusal, cause, phase, told_or, first_failure}
 use Rattle.arz_rules.specs.declared.phases.RuleFault.{RuleFault}
 use Rattle.arz_rules.specs.declared.phases.RuleFault.TheVariants as rule
+use Rattle.arz_rx.specs.Patterns.{PatternsView, Rose as PatternsRose}
+use Rattle.arz_rx.specs.declared.SearchFault.{SearchFault}
+use Rattle.arz_rx.specs.declared.SearchFault.TheVariants as search
+use Rattle.arz_criteria.specs.Rules.{TellsReadings, patterns_in}
+use Rattle.arz_doc.specs.Cycles.{TellsCycles}
 use Rattle.arz_bundle.specs.declared.fault.LoadFault.{LoadFault}
 use Rattle.arz_bundle.specs.declared.fault.LoadFault.TheVariants.{File, Refused, Pattern, Memory}
-use Rattle.arz_bundle.specs.FileTree.{HasTree, Checks, IsRelabelled, FailsAt, load_fault, seen_refusal}
+use Rattle.arz_bundle.specs.FileTree.{HasTree, Checks, JudgesDescription, IsRelabelled, FailsAt, load_fault, search_fault, seen_refusal}
 use Rattle.arz_bundle.specs.Loading.{file_limit, Tells, Reading}
-use Rattle.arz_bundle.specs.Phases.{told, earlier, source_told}
+use Rattle.arz_bundle.specs.Phases.{told, earlier, description_told, source_told}
 
 -- ---- one file, of what is read before it and after it
 
@@ -55,6 +60,19 @@ told-as setup description f g r p q checks =
     let First : Option (ℕ × List Token) → Type 0 = λ o. Checks (earlier (option_map (refusal (codes "setup")) o) (option_map (refusal (codes "arazzo")) g)) r in
     let Second : Option (ℕ × List Token) → Type 0 = λ o. Checks (earlier (seen_refusal (codes "setup") setup) (option_map (refusal (codes "arazzo")) o)) r in
     subst First p (subst Second q checks)
+
+-- the phase of the description, by what is told of it
+module _ (old new : PatternsView) (setup description : Json) where
+  pub described-by : (is_cyclic : ℕ → Bool) (refuses : List ℕ → Bool) → TellsCycles description is_cyclic → TellsReadings old.told description refuses → (fault : RuleFault)
+      → Checks (description_told is_cyclic refuses setup description) (Err fault) → JudgesDescription old new setup description (Err (load_fault fault))
+  described-by is_cyclic refuses cycles readings (rule.Refused r) told = (is_cyclic, cycles, refuses, readings, sym told)
+  described-by is_cyclic refuses cycles readings rule.Memory told = tt
+
+  -- a pattern that was asked of was too big, or memory ran out
+  pub unsearched : (fault : SearchFault) → (fault ≡ search.TooBig → PatternsRose old.too_big new.too_big) → (fault ≡ search.TooBig → patterns_in description ≢ [])
+      → JudgesDescription old new setup description (Err (search_fault fault))
+  unsearched search.TooBig rose asks = (rose refl, asks refl)
+  unsearched search.Memory rose asks = tt
 
 pub refused-as : (o : Option Refusal) (r : Refusal) (fault : RuleFault) → o ≡ Some r → (let meant : Result Unit Refusal = Err r in Fails (cause fault) meant) → Checks o (Err fault)
 refused-as o r (rule.Refused s) is fails = cc

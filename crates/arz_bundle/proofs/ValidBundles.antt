@@ -12,6 +12,7 @@ use Rattle.arz_json.specs.declared.Member.{Member}
 use Rattle.arz_json.specs.declared.Named.{Named}
 use Rattle.arz_json.proofs.Layers.{folded-Object}
 use Rattle.arz_json.proofs.Parts.{IsWithin-more, IsWithin-list_in, IsWithin-object_in, IsWithin-member_in, IsWellFormed-item}
+use Rattle.arz_cond.specs.Outcomes.{Patterned}
 use Rattle.arz_flow.specs.Documents.{members_at}
 use Rattle.arz_flow.specs.Valid.{IsValid}
 use Rattle.arz_rules.specs.Misses.{misses}
@@ -41,12 +42,13 @@ inputs-of setup (Some j) e w = rw e (members-of j (object_in j) refl (IsWithin-m
 abbrev pub Nests : Named → Type 0
 Nests s = IsWithin 127 s.root
 
-pub valid-bundle : (setup d : Json) (sources : List Named) → IsDescribed setup d None → IsWithin 127 setup → IsWithin 127 d → All Nests sources → IsValid (bundle_of setup d sources)
-valid-bundle setup d sources none setup-within d-within sources-within =
-    let steps = run-steps setup d none in
+pub valid-bundle : (patterned : Patterned) (setup d : Json) (sources : List Named) → IsDescribed patterned setup d None → IsWithin 127 setup → IsWithin 127 d → All Nests sources → IsValid (bundle_of setup d sources)
+valid-bundle patterned setup d sources none setup-within d-within sources-within =
+    let steps = run-steps patterned setup d none in
     record {
       some = steps.0;
       few = steps.1;
+      criteria = steps.2;
       arazzo = d-within;
       inputs = inputs-of setup (member_in (codes "inputs") setup) refl setup-within;
       sources = sources-within;

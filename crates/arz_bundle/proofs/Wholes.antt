@@ -18,7 +18,7 @@ use Rattle.arz_bundle.specs.declared.fault.LoadFault.TheVariants.{File, Refused,
 use Rattle.arz_bundle.specs.FileTree.{Checks, Given, GivenSource, GivenSources, load_fault}
 use Rattle.arz_bundle.specs.Loading.{file_limit, Tells, Judged, Reading, Taken, Applied, OneOverlay, Overlaid, ReadingOverlaid, source_name, named, OneSource, FromSources, AfterSources, AfterBuilt, AfterDescription, FromDescription, AfterSetup, Loads, AfterReplies, Gives_replies}
 use Rattle.arz_bundle.specs.Overlays.{Listed, overlays_for, overlay_label}
-use Rattle.arz_bundle.specs.Phases.{setup_told, unbuilt_told, source_label, source_told}
+use Rattle.arz_bundle.specs.Phases.{setup_told, IsDescribed, unbuilt_told, source_label, source_told}
 use Rattle.arz_bundle.specs.Setup.{description_path, path_of_source}
 
 -- ---- parts of a call
@@ -27,6 +27,13 @@ use Rattle.arz_bundle.specs.Setup.{description_path, path_of_source}
 pub record Later (before after : FilesView) : Type 0 where
   pub told : after.told ≡ before.told
   pub counts : (path : List ℕ) → before.faults path ≤ after.faults path
+
+-- nothing was read, and nothing was asked
+pub same-files : (now : FilesView) → Later now now
+same-files now = record { told = refl; counts = λ path. omega arith }
+
+pub same-patterns : (now : PatternsView) → Asked now now
+same-patterns now = record { told = refl; count = omega arith }
 
 -- a call and its part: the same is told, and a count that has risen in the part has risen in the call
 pub record FilesPart (before now first last : FilesView) : Type 0 where
@@ -150,15 +157,16 @@ module _ (before now first last : FilesView) (part : FilesPart before now first 
         sources-wider x x (as-it-is x) before now first last part old new one two asked setup (items_at (codes "sourceDescriptions") description) (AfterSources setup description) (AfterSources setup description) (λ ss goes. goes) came
 
     pub described-whole : (setup description : Json) → AfterDescription before now old new setup description x → AfterDescription first last one two setup description x
-    described-whole setup description (told, described, came) =
+    described-whole setup description (inl (told, described, came)) =
         let Part = AfterBuilt before now old new setup description in
         let Whole = AfterBuilt first last one two setup description in
-        let unbuilt = unbuilt_told description in (
+        let unbuilt = unbuilt_told description in inl (
           told,
-          described,
+          subst (λ patterned. IsDescribed patterned setup description told) asked.told described,
           tells-wider x x (as-it-is x) told (Tells unbuilt Part) (Tells unbuilt Whole)
               (tells-wider x x (as-it-is x) unbuilt Part Whole (built-whole setup description)) came,
         )
+    described-whole setup description (inr (rose, asks, is)) = inr (asked.rose rose, asks, is)
 
     pub description-whole : (setup : Json) → FromDescription before now old new setup x → FromDescription first last one two setup x
     description-whole setup came =

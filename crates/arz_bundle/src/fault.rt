@@ -5,6 +5,7 @@ ghost use Rattle.arz_bundle.specs.declared.fault.LoadFault.TheVariants.{Memory};
 use arz_json::{Refusal, Text};
 use arz_overlay::OverlayFault;
 use arz_rules::RuleFault;
+use arz_rx::SearchFault;
 use std::alloc::{AllocError, AllocFailed};
 use thiserror::Error;
 
@@ -64,6 +65,19 @@ impl From<OverlayFault> for LoadFault {
             OverlayFault::Refused(refusal) => LoadFault::Refused(refusal),
             OverlayFault::Pattern => LoadFault::Pattern,
             OverlayFault::Memory => LoadFault::Memory,
+        }
+    }
+}
+
+impl From<SearchFault> for LoadFault {
+    ghost use Rattle.arz_bundle.specs.FileTree.{search_fault};
+
+    ghost from_gives = { λ f e. e ≡ search_fault f };
+
+    fn from(fault: SearchFault) -> Self {
+        match fault {
+            SearchFault::TooBig => LoadFault::Pattern,
+            SearchFault::Memory => LoadFault::Memory,
         }
     }
 }

@@ -5,16 +5,19 @@ ghost use Rattle.arz_json.specs.declared.Refusal.{Refusal};
 ghost use Rattle.arz_doc.specs.Order.{seen_failure};
 ghost use Rattle.arz_rules.specs.Phases.{failure_or};
 ghost use Rattle.arz_rules.specs.Place.{tokens_in};
-ghost use Rattle.arz_bundle.specs.FileTree.{Checks, seen_refusal, labelled};
+ghost use Rattle.arz_path.specs.Results.{Asked};
+ghost use Rattle.arz_bundle.specs.FileTree.{Checks, JudgesDescription, seen_refusal, labelled};
 ghost use Rattle.arz_start.specs.Lengths.{Measures};
-ghost use Rattle.arz_bundle.specs.Phases.{earlier, IsDescribed, unbuilt_told, steps_against, start_limit, size_told};
+ghost use Rattle.arz_bundle.specs.Phases.{earlier, unbuilt_told, steps_against, start_limit, size_told};
 
+use crate::fault::LoadFault;
 use crate::naming::first_misnamed;
 use crate::unbuilt::first_unbuilt_of_description;
-use arz_doc::{Failure, first_refusal};
+use arz_doc::{Failure, first_refusal_with_criteria};
 use arz_flow::Bundle;
 use arz_json::{Json, Named, NamedText};
 use arz_rules::{RuleFault, refuse, refuse_if, root_unless};
+use arz_rx::Patterns;
 use arz_sources::check_steps;
 use arz_start::start_length;
 use std::alloc::Global;
@@ -29,7 +32,7 @@ pub(crate) fn check_description<P: Patterns>(
 ) -> Result<(), LoadFault>
     requires setup { IsWithin 127 setup.now }
     requires description { IsWithin 127 description.now }
-    ensures { JudgesDescription (P.patterns rx.old) (P.patterns rx.new) setup.now description.now result }
+    ensures judges { JudgesDescription (P.patterns rx.old) (P.patterns rx.new) setup.now description.now result }
     ensures asked { Asked (P.patterns rx.old) (P.patterns rx.new) }
 {
     let named = first_misnamed(alloc, setup, description)?;

@@ -111,4 +111,4 @@ returns-clause-loads g c =
 pub returns-clause-valid : goal.returns-clause-valid
 returns-clause-valid g c =
     rw c.in_ok-bundle.ensures
-    (valid-bundle c.args.setup c.args.description c.in_ok-sources.sources c.requires.described c.requires.setup_nests c.requires.description_nests c.in_ok-sources.ensures.nests)
+    (valid-bundle (g.P.Patterns.patterns c.args.rx.now).told c.args.setup c.args.description c.in_ok-sources.sources c.requires.described c.requires.setup_nests c.requires.description_nests c.in_ok-sources.ensures.nests)
