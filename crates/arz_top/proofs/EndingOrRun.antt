@@ -38,7 +38,7 @@ module _ (before now : FilesView) (old new : PatternsView) (missing : MissingFai
 
   given : (setup replies : List ℕ) (bundle : Bundle) → Loads before now old new setup (Ok bundle) → (y : Result (List Reply) LoadFault) → Gives_replies before now replies y → y ≢ Err Memory
       → Came setup replies
-  given setup replies bundle loads (Ok replied) gives some = inr (bundle, replied, loads, gives, ends_over bundle replied (loads_valid before now old new setup bundle loads))
+  given setup replies bundle loads (Ok replied) gives some = inr (bundle, replied, (loads, gives), ends_over old.told bundle replied (loads_valid before now old new setup bundle loads))
   given setup replies bundle loads (Err fault) gives some =
       let e = faulted-some fault (fault-of (Err fault) fault refl some) in
       inl (e.0, (Ok bundle, loads, (Err fault, gives, e.1)))

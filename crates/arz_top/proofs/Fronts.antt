@@ -8,6 +8,7 @@ use Rattle.arz_flow.specs.declared.answers.End.{End}
 use Rattle.arz_flow.specs.declared.answers.End.TheVariants.{Out}
 use Rattle.arz_flow.specs.declared.bundle.Bundle.{Bundle}
 use Rattle.arz_flow.specs.Executions.{end, Fitting}
+use Rattle.arz_flow.specs.Verdicts.{Patterned}
 use Rattle.arz_flow.proofs.Executions.{prefix_fits}
 
 abbrev GoesOn : List Reply → List Reply → Type 0
@@ -41,23 +42,23 @@ too_long p rest left left' x e none =
     omega (arith, length-append p left, length-append (p ++ x ∷ rest) left', length-append p (x ∷ rest))
 
 -- behind a front that was taken whole and is more, there is no end
-no_end_before : (b : Bundle) (p c left left' : List Reply) (e : End) → GoesOn p c → p ++ left ≡ c ++ left' → Fitting b (map Replied c)
-    → end b (map Replied p) ≡ Some e → ((q : Ask) → e ≡ Out q → left ≡ []) → ⊥
-no_end_before b p c left left' e (x, rest, is) front fit over all =
-    let fit' : Fitting b (map Replied p ++ Replied x ∷ map Replied rest) = subst (Fitting b) (ap (map Replied) is ∙ map-append Replied p (x ∷ rest)) fit in
-    let h = prefix_fits b (map Replied p) (Replied x) (map Replied rest) fit' in
+no_end_before : (told : Patterned) (b : Bundle) (p c left left' : List Reply) (e : End) → GoesOn p c → p ++ left ≡ c ++ left' → Fitting told b (map Replied c)
+    → end told b (map Replied p) ≡ Some e → ((q : Ask) → e ≡ Out q → left ≡ []) → ⊥
+no_end_before told b p c left left' e (x, rest, is) front fit over all =
+    let fit' : Fitting told b (map Replied p ++ Replied x ∷ map Replied rest) = subst (Fitting told b) (ap (map Replied) is ∙ map-append Replied p (x ∷ rest)) fit in
+    let h = prefix_fits told b (map Replied p) (Replied x) (map Replied rest) fit' in
     too_long p rest left left' x (front ∙ ap (λ l. l ++ left') is) (all h.1.0 (some_same e (Out h.1.0) (sym over ∙ h.1.1)))
 
-module _ (b : Bundle) (used left used' left' : List Reply) (e e' : End) (same : used ++ left ≡ used' ++ left')
-    (fit : Fitting b (map Replied used)) (fit' : Fitting b (map Replied used')) (over : end b (map Replied used) ≡ Some e) (over' : end b (map Replied used') ≡ Some e')
+module _ (told : Patterned) (b : Bundle) (used left used' left' : List Reply) (e e' : End) (same : used ++ left ≡ used' ++ left')
+    (fit : Fitting told b (map Replied used)) (fit' : Fitting told b (map Replied used')) (over : end told b (map Replied used) ≡ Some e) (over' : end told b (map Replied used') ≡ Some e')
     (all : (q : Ask) → e ≡ Out q → left ≡ []) (all' : (q : Ask) → e' ≡ Out q → left' ≡ []) where
   picked : Split used used' → used ≡ used'
   picked (inl is) = is
-  picked (inr (inl more)) = absurd (no_end_before b used used' left left' e more same fit' over all)
-  picked (inr (inr more)) = absurd (no_end_before b used' used left' left e' more (sym same) fit over' all')
+  picked (inr (inl more)) = absurd (no_end_before told b used used' left left' e more same fit' over all)
+  picked (inr (inr more)) = absurd (no_end_before told b used' used left' left e' more (sym same) fit over' all')
 
   pub one_front : used ≡ used'
   one_front = picked (split used left used' left' same)
 
   pub one_end : e ≡ e'
-  one_end = some_same e e' (sym over ∙ ap (λ u. end b (map Replied u)) one_front ∙ over')
+  one_end = some_same e e' (sym over ∙ ap (λ u. end told b (map Replied u)) one_front ∙ over')

@@ -5,3 +5,5 @@ pub mod OneEnding
 pub mod EndingOrRun
 pub mod Printed
 pub mod RowsOf
+pub mod AllTold
+pub mod TellingAll

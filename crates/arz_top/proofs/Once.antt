@@ -1,25 +1,35 @@
--- Over files that tell what they hold, and of which a read failed only where no file is there, files give one result; where the setup lists an overlay, over patterns that tell what overlays ask of them, of which none was too big.
-use Rattle.std.proofs.Common.{◌≡◌, ◌≢◌, ◌<◌, ◌≤◌, inl, inr, ℕ, List, [], ◌∷◌, length, codes, Option, None, Some, Result, Ok, Err, refl, sym, ap, ◌∙◌, subst, arith}
+-- Over files that tell what they hold, and of which a read failed only where no file is there, and patterns that tell what the command asks of
+-- them, of which none was too big, files give one result.
+use Rattle.std.proofs.Common.{◌≡◌, ◌≢◌, ◌<◌, ◌≤◌, inl, inr, ℕ, Bool, List, [], ◌∷◌, ◌++◌, length, codes, Option, None, Some, Result, Ok, Err, refl, sym, ap, ◌∙◌, subst, arith}
 use Rattle.arz_json.specs.Look.{items_at}
 use Rattle.arz_json.specs.declared.Json.{Json}
 use Rattle.arz_json.specs.declared.Named.{Named}
 use Rattle.arz_json.proofs.Readings.{Reads-unique}
 use Rattle.arz_overlay.specs.Documents.{Document, document}
 use Rattle.arz_overlay.specs.Overlaid.{overlaid}
-use Rattle.arz_rx.specs.Patterns.{PatternsView}
+use Rattle.arz_json.specs.Tree.{IsWithin}
+use Rattle.arz_overlay.specs.Applied.{Says}
+use Rattle.arz_rx.specs.Patterns.{PatternsView, Rose as PatternsRose}
 use Rattle.arz_world.specs.Outside.{FilesView, ReadsAs, Rose, Told}
 use Rattle.arz_json.specs.declared.Refusal.{Refusal}
 use Rattle.arz_flow.specs.declared.bundle.Bundle.{Bundle}
 use Rattle.arz_bundle.specs.declared.fault.LoadFault.{LoadFault}
 use Rattle.arz_bundle.specs.declared.fault.LoadFault.TheVariants.{Refused, Memory}
 use Rattle.arz_bundle.specs.Loading.{file_limit, IsFile, NoFile, Tells, Judged, Reading, Taken, Applied, Overlaid, ReadingOverlaid, source_name, named, FromSources, AfterSources, AfterBuilt, AfterDescription, FromDescription, AfterSetup, Loads, AfterReplies, Gives_replies}
-use Rattle.arz_doc.proofs.OneTest.{same_rules}
+use Rattle.arz_components.specs.Described.{component}
+use Rattle.arz_cond.specs.Outcomes.{Patterned}
+use Rattle.arz_criteria.specs.Rules.{bad_patterns, AreReadingsTold}
+use Rattle.arz_criteria.proofs.Agreed.{one_outcome}
+use Rattle.arz_doc.specs.Cycles.{TellsCycles}
+use Rattle.arz_doc.specs.Order.{name_rules, judged_rules, sending_rules, whole_rules, whole_rules_with}
+use Rattle.arz_graph.proofs.Tests.{tests_agree}
 use Rattle.arz_bundle.specs.Naming.{naming_rules}
 use Rattle.arz_bundle.specs.Overlays.{Listed, items_for, overlays_for, overlay_label}
 use Rattle.arz_bundle.specs.Phases.{told as told_of, earlier, setup_told, IsDescribed, unbuilt_told, source_label, source_told, steps_told, size_told, replies_told}
 use Rattle.arz_bundle.specs.Replies.{replies_of}
 use Rattle.arz_bundle.specs.Setup.{description_path, path_of_source, bundle_of}
-use Rattle.arz_top.specs.Steady.{IsSteady, IsFileAt, ArePatternsSteady, ListsOverlay}
+use Rattle.arz_top.specs.declared.words.Command.{Command}
+use Rattle.arz_top.specs.Steady.{IsSteady, IsFileAt, IsSetup, IsDescription, HasOverlay, ArePatternsSteady}
 
 -- all results of this kind are one, but want of memory
 abbrev pub IsOne : {A : Type 0} → (Result A LoadFault → Type 0) → Type 0
@@ -78,11 +88,19 @@ module _ {A : Type 0} (label : List ℕ) (Next : Json → Result A LoadFault →
 gives-one : {A : Type 0} (o : Option Refusal) (given : Result A LoadFault) → IsOne (Tells o (λ x. x ≡ given))
 gives-one o given = tells-one o (λ x. x ≡ given) (λ x y mx my p q. p ∙ sym q)
 
--- the tests of cycles agree, so one thing is told of a description
-one-described : (setup description : Json) (o p : Option Refusal) → IsDescribed setup description o → IsDescribed setup description p → o ≡ p
-one-described setup description o p (f, f-tells, o-is) (g, g-tells, p-is) =
+-- the tests of cycles agree, and those of readings where these are told, so one thing is told of a description
+same-whole : (root : Json) (f g : ℕ → Bool) (r t : List ℕ → Bool) → TellsCycles root f → TellsCycles root g → bad_patterns r root ≡ bad_patterns t root → whole_rules f r root ≡ whole_rules g t root
+unfolding whole_rules whole_rules_with
+same-whole root f g r t p q e =
+    let by-cycles : whole_rules f r root ≡ whole_rules g r root = λ k. whole_rules (λ i. (tests_agree (f i) (g i) (p.exact i) (q.exact i)) k) r root in
+    by-cycles ∙ ap (λ ps. name_rules (component root) g root ++ judged_rules root ++ ((16, ps) ∷ []) ++ sending_rules root) e
+
+one-described : (told : Patterned) (setup description : Json) → AreReadingsTold told description → (o p : Option Refusal) → IsDescribed told setup description o → IsDescribed told setup description p → o ≡ p
+one-described told setup description readings o p (f, f-tells, r, r-tells, o-is) (g, g-tells, t, t-tells, p-is) =
     let named = told_of (codes "setup") (naming_rules description setup) in
-    o-is ∙ ap (λ rs. earlier named (told_of (codes "arazzo") rs)) (same_rules description f g f-tells g-tells) ∙ sym p-is
+    o-is
+    ∙ ap (λ rs. earlier named (told_of (codes "arazzo") rs)) (same-whole description f g r t f-tells g-tells (one_outcome told description r t readings r-tells t-tells))
+    ∙ sym p-is
 
 -- ---- overlays
 
@@ -102,43 +120,63 @@ same-refused m r s p q = cc
 not-both-made : (m : Meant) (j : Json) (r : Refusal) → m ≡ Ok j → m ≡ Err r → ⊥
 not-both-made m j r p q = cc
 
-module _ (files : FilesView) (old new : PatternsView) (sure : ArePatternsSteady files old new) where
-  applied-one : {A : Type 0} (Next : Json → Result A LoadFault → Type 0) → ((made : Json) → IsOne (Next made)) → (meant : Option Meant) → meant ≢ None → IsOne (Applied old new meant Next)
-  applied-one Next one None some x y mx my p q = absurd (some refl)
-  applied-one Next one (Some m) some x y mx my (inl (i, says, within, goes)) (inl (j, says', within', goes')) =
-      one i x y mx my goes (subst (λ t. Next t y) (same-made m i j says says') goes')
-  applied-one Next one (Some m) some x y mx my (inl (i, says, within, goes)) (inr (inl (r, says', is))) = absurd (not-both-made m i r says says')
-  applied-one Next one (Some m) some x y mx my (inl p) (inr (inr q)) = absurd (sure.sized q.0)
-  applied-one Next one (Some m) some x y mx my (inr (inl (r, says, is))) (inl (j, says', within', goes')) = absurd (not-both-made m j r says' says)
-  applied-one Next one (Some m) some x y mx my (inr (inl (r, says, is))) (inr (inl (s, says', is'))) =
+-- where it is told what an overlay makes of a tree, and no pattern was too big, one result follows
+module _ (old new : PatternsView) (sized : PatternsRose old.too_big new.too_big → ⊥) where
+  applied-one : {A : Type 0} (Next : Json → Result A LoadFault → Type 0) (meant : Option Meant)
+      → ((made : Json) → Says meant (Ok made) → IsWithin 127 made → IsOne (Next made)) → meant ≢ None → IsOne (Applied old new meant Next)
+  applied-one Next None one some x y mx my p q = absurd (some refl)
+  applied-one Next (Some m) one some x y mx my (inl (i, says, within, goes)) (inl (j, says', within', goes')) =
+      one i says within x y mx my goes (subst (λ t. Next t y) (same-made m i j says says') goes')
+  applied-one Next (Some m) one some x y mx my (inl (i, says, within, goes)) (inr (inl (r, says', is))) = absurd (not-both-made m i r says says')
+  applied-one Next (Some m) one some x y mx my (inl p) (inr (inr q)) = absurd (sized q.0)
+  applied-one Next (Some m) one some x y mx my (inr (inl (r, says, is))) (inl (j, says', within', goes')) = absurd (not-both-made m j r says' says)
+  applied-one Next (Some m) one some x y mx my (inr (inl (r, says, is))) (inr (inl (s, says', is'))) =
       is ∙ ap (λ (z : Refusal). Err (Refused z)) (same-refused m r s says says') ∙ sym is'
-  applied-one Next one (Some m) some x y mx my (inr (inl p)) (inr (inr q)) = absurd (sure.sized q.0)
-  applied-one Next one (Some m) some x y mx my (inr (inr p)) q = absurd (sure.sized p.0)
+  applied-one Next (Some m) one some x y mx my (inr (inl p)) (inr (inr q)) = absurd (sized q.0)
+  applied-one Next (Some m) one some x y mx my (inr (inr p)) q = absurd (sized p.0)
 
 -- the setup lists an overlay where one is for a document of it
 lists-some : (whose : Option (List ℕ)) (setup : Json) → overlays_for whose setup ≢ [] → items_at (codes "overlays") setup ≢ []
 lists-some whose setup some none = some (ap (items_for whose 0) none)
 
-module _ (before now : FilesView) (old new : PatternsView) (steady : IsSteady before now) {A : Type 0} (Next : Json → Result A LoadFault → Type 0) (one : (made : Json) → IsOne (Next made)) where
-  overlaid-one : (os : List Listed) → (os ≢ [] → ArePatternsSteady before old new) → (tree : Json) → IsOne (Overlaid before now old new os tree Next)
-  overlaid-one [] sure tree = one tree
-  overlaid-one (o ∷ os) sure tree =
-      let label = overlay_label o.index in
-      let some : o ∷ os ≢ [] = λ none. cc in
-      let sure-here = sure some in
-      let Rest : Json → Result A LoadFault → Type 0 = λ made. Overlaid before now old new os made Next in
-      let Then : Document → Result A LoadFault → Type 0 = λ d. Applied old new (overlaid old.told d tree) Rest in
-      reading-one label (λ root. Taken (document label root) Then) before now o.path
-      (λ root file. taken-one (document label root) Then (λ d is. applied-one before old new sure-here Rest (overlaid-one os (λ more. sure-here)) (overlaid old.told d tree) (sure-here.told o.path label root tree d file is)))
-      steady
+-- ---- a command whose setup is at this path
 
-  document-one : (path label : List ℕ) (os : List Listed) → (os ≢ [] → ArePatternsSteady before old new) → IsOne (ReadingOverlaid before now old new path label os Next)
-  document-one path label os sure = reading-one label (λ tree. Overlaid before now old new os tree Next) before now path (λ tree file. overlaid-one os sure tree) steady
+module _ (before now : FilesView) (old new : PatternsView) (command : Command) (path : List ℕ) (at-path : (setup : Json) → IsFileAt before path setup → IsSetup before command setup)
+    (steady : IsSteady before now) (sure : ArePatternsSteady before now old new command) where
+  -- these overlays make this of a tree
+  abbrev Makes : List Listed → (tree made : Json) → Type 0
+  Makes os tree made = Overlaid before now old new os tree (λ t x. x ≡ Ok t) (Ok made)
 
--- ---- the files, one by one
+  module _ {A : Type 0} (Next : Json → Result A LoadFault → Type 0) where
+    overlaid-one : (os : List Listed) → (os ≢ [] → HasOverlay before now old new command) → (tree : Json) → ((made : Json) → Makes os tree made → IsOne (Next made)) → IsOne (Overlaid before now old new os tree Next)
+    overlaid-one [] has tree one = one tree refl
+    overlaid-one (o ∷ os) has tree one =
+        let label = overlay_label o.index in
+        let some : o ∷ os ≢ [] = λ none. cc in
+        let here = has some in
+        let Rest : Json → Result A LoadFault → Type 0 = λ made. Overlaid before now old new os made Next in
+        let Then : Document → Result A LoadFault → Type 0 = λ d. Applied old new (overlaid old.told d tree) Rest in
+        let Made : Json → Result Json LoadFault → Type 0 = λ t x. x ≡ Ok t in
+        reading-one label (λ root. Taken (document label root) Then) before now o.path
+        (λ root file. taken-one (document label root) Then (λ d is. applied-one old new (sure.sized (inl here)) Rest (overlaid old.told d tree)
+        (λ made says within. overlaid-one os (λ more. here) made
+        (λ last makes. one last (inl (file.0, file.1, inl (root, file.2,
+            subst (λ r. Taken r (λ e. Applied old new (overlaid old.told e tree) (λ t. Overlaid before now old new os t Made)) (Ok last)) (sym is) (inl (made, says, within, makes)))))))
+        (sure.overlays here o.path label root tree d file is)))
+        steady
 
-module _ (before now : FilesView) (old new : PatternsView) (steady : IsSteady before now) where
-  module _ (setup : Json) (sure : items_at (codes "overlays") setup ≢ [] → ArePatternsSteady before old new) where
+    document-one : (path label : List ℕ) (os : List Listed) → (os ≢ [] → HasOverlay before now old new command)
+        → ((made : Json) → ReadingOverlaid before now old new path label os (λ t x. x ≡ Ok t) (Ok made) → IsOne (Next made)) → IsOne (ReadingOverlaid before now old new path label os Next)
+    document-one path label os has one =
+        reading-one label (λ tree. Overlaid before now old new os tree Next) before now path
+        (λ tree file. overlaid-one os has tree (λ made makes. one made (inl (file.0, file.1, inl (tree, file.2, makes))))) steady
+
+  -- ---- the files, one by one
+
+  module _ (setup : Json) (is-setup : IsSetup before command setup) where
+    has-overlay : (whose : Option (List ℕ)) → overlays_for whose setup ≢ [] → HasOverlay before now old new command
+    has-overlay whose some = (setup, is-setup, lists-some whose setup some)
+
     sources-one : {A : Type 0} (described : List Json) (Next : List Named → Result A LoadFault → Type 0) → ((sources : List Named) → IsOne (Next sources))
         → IsOne (FromSources before now old new setup described Next)
     sources-one [] Next one = one []
@@ -146,10 +184,9 @@ module _ (before now : FilesView) (old new : PatternsView) (steady : IsSteady be
         let whose = Some (source_name source) in
         let label = source_label (source_name source) in
         let Rest : Json → Result A LoadFault → Type 0 = λ root. FromSources before now old new setup described (λ sources. Next (named source root ∷ sources)) in
-        document-one before now old new steady (λ root. Tells (source_told label root) (Rest root))
-        (λ root. tells-one (source_told label root) (Rest root)
+        document-one (λ root. Tells (source_told label root) (Rest root)) (path_of_source setup source) label (overlays_for whose setup) (has-overlay whose)
+        (λ root made. tells-one (source_told label root) (Rest root)
         (sources-one described (λ sources. Next (named source root ∷ sources)) (λ sources. one (named source root ∷ sources))))
-        (path_of_source setup source) label (overlays_for whose setup) (λ some. sure (lists-some whose setup some))
 
     after-one : (description : Json) (sources : List Named) → IsOne (AfterSources setup description sources)
     after-one description sources =
@@ -160,22 +197,24 @@ module _ (before now : FilesView) (old new : PatternsView) (steady : IsSteady be
     built-one : (description : Json) → IsOne (AfterBuilt before now old new setup description)
     built-one description = sources-one (items_at (codes "sourceDescriptions") description) (AfterSources setup description) (after-one description)
 
-    described-one : (description : Json) → IsOne (AfterDescription before now old new setup description)
-    described-one description x y mx my (told, described, came) (other, described', came') =
+    described-one : (description : Json) → IsDescription before now old new setup description → IsOne (AfterDescription before now old new setup description)
+    described-one description made x y mx my (inl (told, described, came)) (inl (other, described', came')) =
         let unbuilt = unbuilt_told description in
         let Then = AfterBuilt before now old new setup description in
+        let readings = sure.readings setup description is-setup made in
         tells-one told (Tells unbuilt Then) (tells-one unbuilt Then (built-one description)) x y mx my came
-        (subst (λ o. Tells o (Tells unbuilt Then) y) (one-described setup description other told described' described) came')
+        (subst (λ o. Tells o (Tells unbuilt Then) y) (one-described old.told setup description readings other told described' described) came')
+    described-one description made x y mx my (inl p) (inr (rose, some, is)) = absurd (sure.sized (inr (inl (setup, description, is-setup, made, some))) rose)
+    described-one description made x y mx my (inr (rose, some, is)) q = absurd (sure.sized (inr (inl (setup, description, is-setup, made, some))) rose)
 
     description-one : IsOne (FromDescription before now old new setup)
     description-one =
-        document-one before now old new steady (AfterDescription before now old new setup) described-one (description_path setup) (codes "arazzo") (overlays_for None setup)
-        (λ some. sure (lists-some None setup some))
+        document-one (AfterDescription before now old new setup) (description_path setup) (codes "arazzo") (overlays_for None setup) (has-overlay None) described-one
 
-  pub loads-one : (path : List ℕ) → (ListsOverlay before path → ArePatternsSteady before old new) → IsOne (Loads before now old new path)
-  loads-one path sure =
+  pub loads-one : IsOne (Loads before now old new path)
+  loads-one =
       reading-one (codes "setup") (AfterSetup before now old new) before now path
-      (λ tree file. tells-one (setup_told tree) (FromDescription before now old new tree) (description-one tree (λ some. sure (tree, file, some)))) steady
+      (λ tree file. tells-one (setup_told tree) (FromDescription before now old new tree) (description-one tree (at-path tree file))) steady
 
 module _ (before now : FilesView) (steady : IsSteady before now) where
   pub replies-one : (path : List ℕ) → IsOne (Gives_replies before now path)

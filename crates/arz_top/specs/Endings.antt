@@ -14,7 +14,7 @@ use Rattle.arz_top.specs.declared.words.Command.TheVariants.{Mock, Check, Unknow
 use Rattle.arz_session.specs.declared.session.Session.{Session}
 use Rattle.arz_top.specs.declared.ending.Ending.{Ending}
 use Rattle.arz_top.specs.declared.ending.Ending.TheVariants.{Words, File, Refused, Pattern, Ready, Played}
-use Rattle.arz_session.specs.Mock.{IsMock}
+use Rattle.arz_session.specs.Mock.{IsMock, OnlyWhereRose}
 
 -- where files give nothing, the ending tells why; want of memory comes to no ending
 abbrev pub Faulted : LoadFault → Ending → Type 0
@@ -23,10 +23,11 @@ Faulted (RefusedFault refusal) ending = ending ≡ Refused refusal
 Faulted PatternFault ending = ending ≡ Pattern
 Faulted Memory ending = ⊥
 
--- the execution over the replies, where there are replies
-abbrev pub Plays : Bundle → Result (List Reply) LoadFault → Ending → Type 0
-Plays bundle (Ok replies) ending = (session : Session) × IsMock bundle replies session × (ending ≡ Played session)
-Plays bundle (Err fault) ending = Faulted fault ending
+-- the execution over the replies, where there are replies; old, new: what the patterns show at the call's beginning and end
+abbrev pub Plays : (old new : PatternsView) → Bundle → Result (List Reply) LoadFault → Ending → Type 0
+Plays old new bundle (Ok replies) ending =
+    (session : Session) × IsMock old.told bundle replies session × OnlyWhereRose bundle old new session.outcome × (ending ≡ Played session)
+Plays old new bundle (Err fault) ending = Faulted fault ending
 
 -- nothing more, where the files give a bundle
 abbrev pub Stands : Result Bundle LoadFault → Ending → Type 0
@@ -36,7 +37,7 @@ Stands (Err fault) ending = Faulted fault ending
 -- before, now, old, new: what the files and the patterns show at the call's beginning and end
 module _ (before now : FilesView) (old new : PatternsView) (replies : List ℕ) where
   abbrev pub FromReplies : Bundle → Ending → Type 0
-  FromReplies bundle ending = (given : Result (List Reply) LoadFault) × Gives_replies before now replies given × Plays bundle given ending
+  FromReplies bundle ending = (given : Result (List Reply) LoadFault) × Gives_replies before now replies given × Plays old new bundle given ending
 
   abbrev pub FromBundle : Result Bundle LoadFault → Ending → Type 0
   FromBundle (Ok bundle) ending = FromReplies bundle ending

@@ -14,6 +14,8 @@ use Rattle.arz_flow.specs.Lines.{line_of_end}
 use Rattle.arz_session.specs.declared.session.How.{How}
 use Rattle.arz_session.specs.declared.session.How.TheVariants.{Held, Sent, Served, Mock}
 use Rattle.arz_session.specs.declared.session.Line.{Line}
+use Rattle.arz_session.specs.declared.session.Outcome.{Outcome}
+use Rattle.arz_session.specs.declared.session.Outcome.TheVariants.{Ended, Pattern as Cut}
 use Rattle.arz_session.specs.declared.session.Session.{Session}
 use Rattle.arz_top.specs.declared.ending.Ending.{Ending}
 use Rattle.arz_top.specs.declared.ending.Ending.TheVariants.{Words, File, Refused, Pattern, Ready, Played}
@@ -47,9 +49,14 @@ outputs_line (Out ask) = []
 outputs_line (Stuck cause at) = []
 outputs_line (Budget limit) = []
 
--- a line for each ask, the end's line, and the outputs
+-- the outcome's line, and the outputs; n is the number of the ask that is next
+abbrev pub outcome_lines : ℕ → Outcome → List ℕ
+outcome_lines n (Ended e) = line (line_of_end e n) ++ outputs_line e
+outcome_lines n Cut = line (codes "pattern")
+
+-- a line for each ask, and those of the outcome
 abbrev pub session_report : Session → List ℕ
-session_report s = ask_lines s.lines ++ line (line_of_end s.end (length s.lines + 1)) ++ outputs_line s.end
+session_report s = ask_lines s.lines ++ outcome_lines (length s.lines + 1) s.outcome
 
 -- the names of the rules, by their numbers
 abbrev pub rule_name : ℕ → List ℕ
@@ -107,6 +114,10 @@ end_status (Out ask) = 14
 end_status (Stuck cause at) = 7
 end_status (Budget limit) = 6
 
+abbrev pub outcome_status : Outcome → ℕ
+outcome_status (Ended e) = end_status e
+outcome_status Cut = 15
+
 -- what is answered
 abbrev pub status : Ending → ℕ
 status Words = 2
@@ -114,4 +125,4 @@ status (File path) = 13
 status (Refused refusal) = 3
 status Pattern = 15
 status Ready = 0
-status (Played session) = end_status session.end
+status (Played session) = outcome_status session.outcome

@@ -11,7 +11,7 @@ pub enum Ending {
     File(Text),
     /// This is the first rule that a document fails.
     Refused(Refusal),
-    /// A pattern that an overlay needs was too big.
+    /// A pattern that the documents need as they are read was too big.
     Pattern,
     /// The files of the setup give a bundle.
     Ready,

@@ -4,12 +4,13 @@ ghost use Rattle.serde_json.specs.Written.{compact_text};
 ghost use Rattle.arz_json.specs.Writing.{data_of};
 ghost use Rattle.arz_json.specs.declared.Json.TheVariants.{Object};
 ghost use Rattle.arz_machine.specs.Plain.{are_plain, has_plain_outputs};
-ghost use Rattle.arz_top.specs.Report.{line, how_text, status_text, ask_line, ask_lines, outputs_line, session_report, file_report, rule_name as name_of_rule, refusal_line, report as report_of, end_status as status_of_end, status as status_of};
+ghost use Rattle.arz_session.specs.Plain.{is_plain};
+ghost use Rattle.arz_top.specs.Report.{line, how_text, status_text, ask_line, ask_lines, outputs_line, session_report, file_report, rule_name as name_of_rule, refusal_line, report as report_of, end_status as status_of_end, outcome_lines, outcome_status as status_of_outcome, status as status_of};
 
 use crate::ending::Ending;
 use arz_flow::{End, end_line};
 use arz_json::{CompactFault, Json, Members, Refusal, compact};
-use arz_session::{How, Line, Session};
+use arz_session::{How, Line, Outcome, Session};
 use std::alloc::{AllocError, Global};
 
 /// What is printed.
@@ -36,7 +37,16 @@ pub(crate) fn status(ending: &Ending) -> u8
         Ending::Refused(_) => 3,
         Ending::Pattern => 15,
         Ending::Ready => 0,
-        Ending::Played(session) => end_status(&session.end),
+        Ending::Played(session) => outcome_status(&session.outcome),
+    }
+}
+
+fn outcome_status(outcome: &Outcome) -> u8
+    ensures { result ≡ status_of_outcome outcome.now }
+{
+    match outcome {
+        Outcome::Ended(end) => end_status(end),
+        Outcome::Pattern => 15,
     }
 }
 
@@ -117,15 +127,33 @@ fn write_refusal(alloc: Global, refusal: &Refusal) -> Result<Vec<u8>, AllocError
 fn write_session(alloc: Global, session: Session) -> Result<Vec<u8>, AllocError>
     ensures { IfOk result (λ bytes. bytes.items ≡ session_report session) }
 {
-    let Session { lines, end } = session;
+    let Session { lines, outcome } = session;
     let n = lines.len() as u32 + 1;
     let mut out = Vec::new(alloc);
     push_lines(alloc, &mut out, lines.as_slice())?;
-    let text = end_line(alloc, &end, n)?;
-    out.extend_from_slice(text.as_slice())?;
-    out.extend_from_slice(b"\n")?;
-    push_outputs(alloc, &mut out, end)?;
+    push_outcome(alloc, &mut out, n, outcome)?;
     Ok(out)
+}
+
+// The lines of an outcome; n is the number of the ask that is next.
+fn push_outcome(
+    alloc: Global,
+    out: &mut Vec<u8>,
+    n: u32,
+    outcome: Outcome,
+) -> Result<(), AllocError>
+    requires { is_plain outcome ≡ true }
+    ensures { OnOk result (out.new.items ≡ out.old.items ++ outcome_lines n outcome) }
+{
+    match outcome {
+        Outcome::Ended(end) => {
+            let text = end_line(alloc, &end, n)?;
+            out.extend_from_slice(text.as_slice())?;
+            out.extend_from_slice(b"\n")?;
+            push_outputs(alloc, out, end)
+        }
+        Outcome::Pattern => out.extend_from_slice(b"pattern\n"),
+    }
 }
 
 fn push_lines(alloc: Global, out: &mut Vec<u8>, lines: &[Line]) -> Result<(), AllocError>

@@ -19,7 +19,7 @@ use std::alloc::{AllocError, Global};
 /// Does what the words say, puts the report into the sink, and answers the status that the program
 /// ends with. The words come without the program's name. The clause `ends` says which report and
 /// status belong to the words, files and patterns; the clause `rows` tells it again status by status.
-/// `rx` is what searches for the patterns of overlays' targets.
+/// `rx` is what searches for the patterns of overlays' targets and of criteria.
 pub fn run_words<F: Files, S: Sink, P: Patterns>(
     alloc: Global,
     words: &[String],
@@ -99,7 +99,7 @@ fn mock_files<F: Files, P: Patterns>(
         Ok(replies) => replies,
         Err(fault) => return fault_ending(fault),
     };
-    Ok(Ending::Played(mock(alloc, &bundle, replies)?))
+    Ok(Ending::Played(mock(alloc, &bundle, replies, rx)?))
 }
 
 // Loads the files of a setup.
