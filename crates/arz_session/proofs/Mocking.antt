@@ -1,7 +1,8 @@
 -- The lines of a run over given replies.
-use Rattle.std.proofs.Common.{◌≡◌, ℕ, ◌+◌, ◌<◌, ◌≤◌, None, List, [], ◌∷◌, ◌++◌, length, map, take, drop, get_or, All, Option, Some, IsTrue, true, false, refl, sym, ap, ◌∙◌, subst, arith, length-append}
-use Rattle.std.specs.Prelude.{unwrap_or, slice_get, nat_le, not, ◌&&◌, Bool}
-use Rattle.std.proofs.lemmas.List.{take-append-drop, map-id, length-map}
+use Rattle.std.proofs.Common.{drop-cons, add-one, ◌≡◌, ℕ, ◌+◌, ◌<◌, ◌≤◌, List, [], ◌∷◌, ◌++◌, length, take, drop, get_or, Option, Some, true, false, refl, sym, ap, ◌∙◌, subst, arith, length-append}
+use Rattle.std.specs.Prelude.{unwrap_or, Bool}
+use Rattle.std.proofs.lemmas.List.{length-map, map-append, take_more, take-append-drop, drop_all}
+use Rattle.std.proofs.lemmas.Option.{slice_get_within}
 use Rattle.arz_world.specs.declared.Request.{Request}
 use Rattle.arz_world.specs.declared.Reply.{Reply}
 use Rattle.arz_flow.specs.declared.answers.Ask.{Ask}
@@ -13,15 +14,18 @@ use Rattle.arz_flow.specs.declared.answers.End.TheVariants.{Out}
 use Rattle.arz_flow.specs.declared.bundle.Bundle.{Bundle}
 use Rattle.arz_flow.specs.Valid.{IsValid, steps_limit}
 use Rattle.arz_flow.specs.Lines.{ask_text}
-use Rattle.arz_flow.specs.Executions.{asks, end}
-use Rattle.arz_flow.proofs.Executions.{one_more, no_asks}
+use Rattle.arz_flow.specs.Documents.{steps_of}
+use Rattle.arz_flow.specs.Executions.{asks, end, IsTold}
+use Rattle.arz_flow.specs.Verdicts.{Patterned}
+use Rattle.arz_flow.proofs.Executions.{one_more, no_asks, told_before}
 use Rattle.arz_session.specs.declared.session.Line.{Line}
-use Rattle.arz_session.specs.declared.session.Session.{Session}
 use Rattle.arz_machine.specs.At.{Standing, At}
 use Rattle.arz_machine.specs.Rests.{lacks_answer}
-use Rattle.arz_session.specs.Mock.{line_of, lines_from, lines_of, answers, IsMock}
+use Rattle.arz_machine.specs.States.{Sends}
+use Rattle.arz_session.specs.Mock.{line_of, lines_from, lines_of, answers, HasEnded, IsCut}
+use Rattle.arz_session.specs.Played.{IsPlayed, IsStopped, Plays}
 use Rattle.arz_session.specs.declared.session.How.TheVariants.{Mock}
-use Rattle.arz_machine.proofs.MachineAt.{at_fits}
+use Rattle.arz_machine.proofs.MachineAt.{at_fits, lacks_reply, is_waiting}
 
 answers_more : (used : List Reply) (y : Reply) → answers (used ++ y ∷ []) ≡ answers used ++ Replied y ∷ []
 answers_more [] y = refl
@@ -35,13 +39,22 @@ lines_more n (p ∷ qs) (x ∷ ys) q y e =
     ap (λ l. line_of n p x ∷ l) (lines_more (n + 1) qs ys q y (omega (arith, e)))
     ∙ ap (λ k. line_of n p x ∷ (lines_from (n + 1) qs ys ++ line_of k q y ∷ [])) (omega arith)
 
--- one more reply is taken by the ask that was next
-pub asks_more : (m : Standing) (b : Bundle) (used : List Reply) (q : Request) (y : Reply) → At m b (answers used) → end b (answers used) ≡ Some (Out (Send q)) → asks b (answers (used ++ y ∷ [])) ≡ asks b (answers used) ++ Send q ∷ []
-asks_more m b used q y at e =
-    ap (asks b) (answers_more used y) ∙ (one_more b (answers used) (Send q) (Replied y) (at_fits m b (answers used) at) e refl).1
+-- what is told over more replies was told over fewer
+pub told_front : (told : Patterned) (b : Bundle) (used left replies : List Reply) → used ++ left ≡ replies → IsTold told b (answers replies) → IsTold told b (answers used)
+told_front told b used left replies front t =
+    told_before told b (answers used) (answers left) (subst (IsTold told b) (sym (ap answers front) ∙ map-append Replied used left) t)
 
-pub at_more : (m : Standing) (b : Bundle) (used : List Reply) (y : Reply) → At m b (answers used ++ Replied y ∷ []) → At m b (answers (used ++ y ∷ []))
-at_more m b used y at = subst (At m b) (sym (answers_more used y)) at
+pub told_less : (told : Patterned) (b : Bundle) (used : List Reply) (y : Reply) → IsTold told b (answers (used ++ y ∷ [])) → IsTold told b (answers used)
+told_less told b used y t = told_front told b used (y ∷ []) (used ++ y ∷ []) refl t
+
+-- one more reply is taken by the ask that was next
+pub asks_more : (told : Patterned) (m : Standing) (b : Bundle) (used : List Reply) (q : Request) (y : Reply) → At told m b (answers used) → IsTold told b (answers used) → end told b (answers used) ≡ Some (Out (Send q))
+    → asks told b (answers (used ++ y ∷ [])) ≡ asks told b (answers used) ++ Send q ∷ []
+asks_more told m b used q y at t e =
+    ap (asks told b) (answers_more used y) ∙ (one_more told b (answers used) (Send q) (Replied y) (at_fits told m b (answers used) at t) e refl).1
+
+pub at_more : (told : Patterned) (m : Standing) (b : Bundle) (used : List Reply) (y : Reply) → At told m b (answers used ++ Replied y ∷ []) → At told m b (answers (used ++ y ∷ []))
+at_more told m b used y at = subst (At told m b) (sym (answers_more used y)) at
 
 pub lines_next : (qs rs : List Ask) (ys : List Reply) (q : Ask) (y : Reply) (n : ℕ) (old new : List Line) (line : Line) → length qs ≡ length ys → n ≡ length ys → rs ≡ qs ++ q ∷ [] → old ≡ lines_of qs ys → line ≡ line_of (n + 1) q y → new ≡ old ++ line ∷ [] → new ≡ lines_of rs (ys ++ y ∷ [])
 lines_next qs rs ys q y n old new line same count asked so_far here pushed =
@@ -60,35 +73,8 @@ line_here n told q y e = ap (λ t. line_with n t y) e
 pub lengths_more : (qs : List Ask) (ys : List Reply) (q : Ask) (y : Reply) → length qs ≡ length ys → length (qs ++ q ∷ []) ≡ length (ys ++ y ∷ [])
 lengths_more qs ys q y e = omega (arith, e, length-append qs (q ∷ []), length-append ys (y ∷ []))
 
--- the replies that were used, and those that are left
-pub used_front : {X : Type 0} (used replies : List X) → map (λ x. x) used ≡ take (length used) replies → used ++ drop (length used) replies ≡ replies
-used_front used replies e =
-    ap (λ l. l ++ drop (length used) replies) (sym (map-id used) ∙ e) ∙ take-append-drop (length used) replies
-
 pub same_end : (e f : End) (o : Option End) → o ≡ Some e → o ≡ Some f → e ≡ f
 same_end e f o p q = ap (λ x. unwrap_or x e) (sym p ∙ q)
-
--- what a run came to after the replies that were used
-pub is_mock : (m : Standing) (b : Bundle) (replies used left : List Reply) (s : Session) → At m b (answers used) → used ++ left ≡ replies → end b (answers used) ≡ Some s.end → ((q : Ask) → s.end ≡ Out q → left ≡ []) → s.lines ≡ lines_of (asks b (answers used)) used → IsMock b replies s
-is_mock m b replies used left s at front over all told = record {
-  used = used;
-  left = left;
-  front = front;
-  fitting = at_fits m b (answers used) at;
-  end = over;
-  all = all;
-  lines = told;
-}
-
--- no more lines than steps
-length-lines : (n : ℕ) (qs : List Ask) (ys : List Reply) → length (lines_from n qs ys) ≤ length ys
-length-lines n [] ys = omega arith
-length-lines n (q ∷ qs) [] = omega arith
-length-lines n (q ∷ qs) (y ∷ ys) = let h = length-lines (n + 1) qs ys in omega (arith, h)
-
-pub few_lines : (m : Standing) (b : Bundle) (used : List Reply) (lines : List Line) → IsValid b → At m b (answers used) → lines ≡ lines_of (asks b (answers used)) used → length lines ≤ steps_limit
-few_lines m b used lines valid at told =
-    omega (arith, ap length told, length-lines 1 (asks b (answers used)) used, length-map used Replied, at.count, at.within, valid.few)
 
 -- an end that lacks no answer isn't Out
 pub lacks_none : (e : End) (q : Ask) → lacks_answer e ≡ false → e ≡ Out q → ⊥
@@ -97,30 +83,156 @@ lacks_none e q settled is = true_isnt_false (ap lacks_answer (sym is) ∙ settle
     true_isnt_false : true ≡ false → ⊥
     true_isnt_false x = absurd cc
 
--- a machine that was told these replies, each with its line
-pub record IsTold (b : Bundle) (m : Standing) (used : List Reply) (lines : List Line) : Type 0 where
-  pub at : At m b (answers used)
-  pub told : lines ≡ lines_of (asks b (answers used)) used
-  pub asked : length (asks b (answers used)) ≡ length used
+-- ---- the replies in order
 
-pub told_nothing : (b : Bundle) (m : Standing) (lines : List Line) → At m b [] → lines ≡ [] → IsTold b m [] lines
-told_nothing b m lines at none = record {
+-- a machine that was told these replies, each with its line
+pub record HasTold (told : Patterned) (b : Bundle) (m : Standing) (used : List Reply) (lines : List Line) : Type 0 where
+  pub at : At told m b (answers used)
+  pub count : length lines ≡ length used
+  pub lines_told : IsTold told b (answers used) → lines ≡ lines_of (asks told b (answers used)) used
+  pub asked : IsTold told b (answers used) → length (asks told b (answers used)) ≡ length used
+
+pub told_nothing : (told : Patterned) (b : Bundle) (m : Standing) (lines : List Line) → At told m b [] → lines ≡ [] → HasTold told b m [] lines
+told_nothing told b m lines at none = record {
   at = at;
-  told = none ∙ ap (λ l. lines_of l []) (sym (no_asks b));
-  asked = ap length (no_asks b);
+  count = ap length none;
+  lines_told = λ _. none ∙ ap (λ l. lines_of l []) (sym (no_asks told b));
+  asked = λ _. ap length (no_asks told b);
 }
 
--- one more reply was told
-pub told_more : (b : Bundle) (m m' : Standing) (used : List Reply) (lines lines' : List Line) (q : Request) (y : Reply) (n : ℕ) (told : List ℕ)
-    → IsTold b m used lines → n ≡ m.step + 1 → end b (answers used) ≡ Some (Out (Send q)) → told ≡ ask_text (Send q)
-    → At m' b (answers used ++ Replied y ∷ [])
-    → lines' ≡ lines ++ line_with n told y ∷ [] → IsTold b m' (used ++ y ∷ []) lines'
-told_more b m m' used lines lines' q y n told i number lacks text taken pushed =
-    let asked = asks_more m b used q y i.at lacks in
-    let count : length used ≡ m.step = omega (arith, i.at.count, length-map used Replied) in
-    record {
-      at = at_more m' b used y taken;
-      told = lines_next (asks b (answers used)) _ used (Send q) y (length used) lines lines' (line_with n told y) i.asked refl asked i.told
-          (line_here n told q y text ∙ ap (λ k. line_of k (Send q) y) (omega (arith, number, count))) pushed;
-      asked = ap length asked ∙ lengths_more (asks b (answers used)) used (Send q) y i.asked;
-    }
+module _ (told : Patterned) (b : Bundle) (m : Standing) (used : List Reply) (lines : List Line) (i : HasTold told b m used lines)
+    (q : Request) (y : Reply) (n : ℕ) (text : List ℕ) (number : n ≡ m.step + 1) (lacks : IsTold told b (answers used) → end told b (answers used) ≡ Some (Out (Send q))) (is : text ≡ ask_text (Send q))
+    (lines' : List Line) (pushed : lines' ≡ lines ++ line_with n text y ∷ []) where
+  count_more : length lines' ≡ length used + 1
+  count_more = ap length pushed ∙ omega (arith, length-append lines (line_with n text y ∷ []), i.count)
+
+  lines_more_told : (qs : List Ask) → IsTold told b (answers used) → qs ≡ asks told b (answers used) ++ Send q ∷ [] → lines' ≡ lines_of qs (used ++ y ∷ [])
+  lines_more_told qs t asked =
+      let count : length used ≡ m.step = omega (arith, i.at.count, length-map used Replied) in
+      lines_next (asks told b (answers used)) qs used (Send q) y (length used) lines lines' (line_with n text y) (i.asked t) refl asked (i.lines_told t)
+      (line_here n text q y is ∙ ap (λ k. line_of k (Send q) y) (omega (arith, number, count))) pushed
+
+  -- one more reply was told
+  pub told_more : (m' : Standing) → At told m' b (answers used ++ Replied y ∷ []) → HasTold told b m' (used ++ y ∷ []) lines'
+  told_more m' taken =
+      let asked = λ (t : IsTold told b (answers (used ++ y ∷ []))). let u = told_less told b used y t in asks_more told m b used q y i.at u (lacks u) in
+      record {
+        at = at_more told m' b used y taken;
+        count = count_more ∙ omega (arith, length-append used (y ∷ []));
+        lines_told = λ t. lines_more_told _ (told_less told b used y t) (asked t);
+        asked = λ t. ap length (asked t) ∙ lengths_more (asks told b (answers used)) used (Send q) y (i.asked (told_less told b used y t));
+      }
+
+  -- for a criterion of the next ask a pattern was too big
+  pub stopped_at : (m' : Standing) (left replies : List Reply) → m.rest ≡ Sends q → m' ≡ m → used ++ y ∷ left ≡ replies → IsStopped told b replies m' lines'
+  stopped_at m' left replies waits same front = record {
+    used = used;
+    reply = y;
+    left = left;
+    front = front;
+    at = subst (λ x. At told x b (answers used)) (sym same) i.at;
+    count = count_more;
+    request = q;
+    waits = ap (λ x. x.rest) same ∙ waits;
+    lines_told = λ t. lines_more_told _ t refl;
+  }
+
+-- ---- the replies by their numbers
+
+take_more_at : (xs : List Reply) (i : ℕ) (x : Reply) → i < length xs → x ≡ get_or xs i x → take (i + 1) xs ≡ take i xs ++ x ∷ []
+take_more_at xs i x lt is = take_more xs i x lt ∙ ap (λ y. take i xs ++ y ∷ []) (sym is)
+
+front_at : (xs : List Reply) (i : ℕ) (x : Reply) → i < length xs → x ≡ get_or xs i x → take i xs ++ x ∷ drop (i + 1) xs ≡ xs
+front_at xs i x lt is =
+    ap (λ y. take i xs ++ y ∷ drop (i + 1) xs) is
+    ∙ ap (λ l. take i xs ++ l) (sym (rw add-one (drop-cons xs i x lt)))
+    ∙ take-append-drop i xs
+
+module _ (told : Patterned) (b : Bundle) (m : Standing) (replies : List Reply) (k : ℕ) (lines : List Line) (i : HasTold told b m (take k replies) lines) where
+  abbrev used : List Reply
+  used = take k replies
+
+  -- the execution has ended
+  pub played_over : (e : End) → (IsTold told b (answers (take k replies)) → (end told b (answers (take k replies)) ≡ Some e) × (lacks_answer e ≡ false)) → IsPlayed told b replies m lines
+  played_over e over = record {
+    used = used;
+    left = drop k replies;
+    front = take-append-drop k replies;
+    at = i.at;
+    count = i.count;
+    all = λ t q is. let h = over t in absurd (lacks_none e q h.1 (same_end e (Out q) (end told b (answers used)) h.0 is));
+    lines_told = i.lines_told;
+  }
+
+  -- no reply is left
+  pub played_out : length replies ≤ k → IsPlayed told b replies m lines
+  played_out le = record {
+    used = used;
+    left = drop k replies;
+    front = take-append-drop k replies;
+    at = i.at;
+    count = i.count;
+    all = λ t q is. drop_all k replies le;
+    lines_told = i.lines_told;
+  }
+
+  module _ (y : Reply) (lt : k < length replies) (here : y ≡ get_or replies k y) (q : Request) (n : ℕ) (text : List ℕ)
+      (number : n ≡ m.step + 1) (lacks : IsTold told b (answers (take k replies)) → end told b (answers (take k replies)) ≡ Some (Out (Send q))) (is : text ≡ ask_text (Send q))
+      (lines' : List Line) (pushed : lines' ≡ lines ++ line_with n text y ∷ []) where
+    pub told_next : (m' : Standing) → At told m' b (answers (take k replies) ++ Replied y ∷ []) → HasTold told b m' (take (k + 1) replies) lines'
+    told_next m' taken = subst (λ l. HasTold told b m' l lines') (sym (take_more_at replies k y lt here)) (told_more told b m used lines i q y n text number lacks is lines' pushed m' taken)
+
+    pub stopped_next : (m' : Standing) → m.rest ≡ Sends q → m' ≡ m → IsStopped told b replies m' lines'
+    stopped_next m' waits same = stopped_at told b m used lines i q y n text number lacks is lines' pushed m' (drop (k + 1) replies) replies waits same (front_at replies k y lt here)
+
+-- ---- what a run came to
+
+-- by the replies and the lines as they are kept
+module _ (told : Patterned) (b : Bundle) (replies read : List Reply) (m : Standing) (kept lines : List Line) (pattern : Bool) (same : read ≡ replies) (is : kept ≡ lines) (plays : Plays pattern told b read m lines) where
+  pub was_stopped : pattern ≡ true → IsStopped told b replies m kept
+  was_stopped e =
+      subst (IsStopped told b replies m) (sym is) (subst (λ rs. IsStopped told b rs m lines) same (subst (λ p. Plays p told b read m lines) e plays))
+
+  pub was_played : pattern ≡ false → IsPlayed told b replies m kept
+  was_played e =
+      subst (IsPlayed told b replies m) (sym is) (subst (λ rs. IsPlayed told b rs m lines) same (subst (λ p. Plays p told b read m lines) e plays))
+
+module _ (told : Patterned) (b : Bundle) (replies : List Reply) (m : Standing) (lines : List Line) where
+  pub has_ended : IsPlayed told b replies m lines → (e : End) → ((r : List Answer) → At told m b r → IsTold told b r → end told b r ≡ Some e)
+      → IsTold told b (answers replies) → HasEnded told b replies lines e
+  has_ended played e ends t =
+      let u = told_front told b played.used played.left replies played.front t in
+      let over = ends (answers played.used) played.at u in
+      record {
+        used = played.used;
+        left = played.left;
+        front = played.front;
+        fitting = at_fits told m b (answers played.used) played.at u;
+        end = over;
+        all = λ q is. played.all u q (over ∙ ap Some is);
+        lines = played.lines_told u;
+      }
+
+  pub is_cut : IsStopped told b replies m lines → IsTold told b (answers replies) → IsCut told b replies lines
+  is_cut s t =
+      let u = told_front told b s.used (s.reply ∷ s.left) replies s.front t in
+      record {
+        used = s.used;
+        reply = s.reply;
+        left = s.left;
+        front = s.front;
+        fitting = at_fits told m b (answers s.used) s.at u;
+        ask = Send s.request;
+        next = lacks_reply told m b (answers s.used) s.at s.request s.waits u;
+        lines = s.lines_told u;
+      }
+
+  -- no more lines than steps
+  pub few_played : IsValid b → IsPlayed told b replies m lines → length lines ≤ steps_limit
+  few_played valid p = omega (arith, p.count, length-map p.used Replied, p.at.count, p.at.within, valid.few)
+
+  pub few_stopped : IsValid b → IsStopped told b replies m lines → length lines ≤ steps_limit
+  few_stopped valid s =
+      let waiting = is_waiting told m b (answers s.used) s.at s.request s.waits in
+      let lt : m.step < length (steps_of b b.workflow) = slice_get_within (steps_of b b.workflow) m.step waiting.step waiting.there in
+      omega (arith, s.count, length-map s.used Replied, s.at.count, lt, valid.few)

@@ -1,5 +1,5 @@
 -- Statements of the laws of runs over given replies, where `told` is what is told of patterns.
-use Rattle.std.specs.Prelude.{ℕ, ◌≡◌, ◌≤◌, List, [], ◌++◌, length, Some}
+use Rattle.std.specs.Prelude.{◌≡◌, ◌≤◌, List, [], ◌++◌, length, Some}
 use Rattle.arz_world.specs.declared.Reply.{Reply}
 use Rattle.arz_flow.specs.declared.answers.Ask.{Ask}
 use Rattle.arz_flow.specs.declared.answers.End.{End}

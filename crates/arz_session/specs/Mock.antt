@@ -35,7 +35,7 @@ answers replies = map Replied replies
 
 -- ---- what a run comes to, where `told` is what is told of patterns
 
-module _ (told : Patterned) (b : Bundle) (replies : List Reply) (lines : List Line) where
+module _ (told : Patterned) (b : Bundle) (replies : List Reply) (all_lines : List Line) where
   -- the execution over a front of the replies, each of which was taken, has this end; all of them were where it lacks an answer
   pub record HasEnded (e : End) : Type 0 where
     pub used : List Reply
@@ -44,7 +44,7 @@ module _ (told : Patterned) (b : Bundle) (replies : List Reply) (lines : List Li
     pub fitting : Fitting told b (answers used)
     pub end : end told b (answers used) ≡ Some e
     pub all : (q : Ask) → e ≡ Out q → left ≡ []
-    pub lines : lines ≡ lines_of (asks told b (answers used)) used
+    pub lines : all_lines ≡ lines_of (asks told b (answers used)) used
 
   -- a front of the replies was taken, and for a criterion of the next ask a pattern was too big
   pub record IsCut : Type 0 where
@@ -55,7 +55,7 @@ module _ (told : Patterned) (b : Bundle) (replies : List Reply) (lines : List Li
     pub fitting : Fitting told b (answers used)
     pub ask : Ask
     pub next : end told b (answers used) ≡ Some (Out ask)
-    pub lines : lines ≡ lines_of (asks told b (answers used) ++ ask ∷ []) (used ++ reply ∷ [])
+    pub lines : all_lines ≡ lines_of (asks told b (answers used) ++ ask ∷ []) (used ++ reply ∷ [])
 
   abbrev pub Comes : Outcome → Type 0
   Comes (Ended e) = HasEnded e
