@@ -5,7 +5,7 @@ ghost use Rattle.arz_flow.specs.Documents.{criteria_of};
 ghost use Rattle.arz_flow.specs.Valid.{IsCriterion};
 ghost use Rattle.arz_machine.specs.Tests.{tests_of};
 
-use arz_cond::Test;
+use arz_cond::{Test, TestFault};
 use arz_flow::items_at;
 use arz_json::{Json, Many};
 use std::alloc::{AllocError, Global};
@@ -34,13 +34,15 @@ fn step_tests(alloc: Global, criteria: &[Json]) -> Result<Many<Test>, AllocError
     Ok(Many::from_std(tests))
 }
 
-// A criterion that can be read. It fails for want of memory alone.
+// A criterion that can be read.
+#[tactic(auto, using(arz_cond::proofs::Functions::no_fault_but_memory))]
 fn test(alloc: Global, criterion: &Json) -> Result<Test, AllocError>
     requires { IsRead (criterion_at criterion.now) }
     ensures { IfOk result (λ test. test ≡ criterion_at criterion.now) }
 {
     match Test::of(alloc, criterion) {
         Ok(test) => Ok(test),
-        Err(_) => Err(AllocError),
+        Err(TestFault::Memory) => Err(AllocError),
+        Err(_) => unreachable!(),
     }
 }

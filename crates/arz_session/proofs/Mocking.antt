@@ -16,14 +16,17 @@ use Rattle.arz_flow.specs.Valid.{IsValid, steps_limit}
 use Rattle.arz_flow.specs.Lines.{ask_text}
 use Rattle.arz_flow.specs.Documents.{steps_of}
 use Rattle.arz_flow.specs.Executions.{asks, end, IsTold}
-use Rattle.arz_flow.specs.Verdicts.{Patterned}
+use Rattle.arz_flow.specs.Verdicts.{Patterned, asks_patterns}
 use Rattle.arz_flow.proofs.Executions.{one_more, no_asks, told_before}
+use Rattle.arz_rx.specs.Patterns.{PatternsView, Rose}
+use Rattle.arz_machine.specs.Plain.{has_plain_outputs}
+use Rattle.arz_session.specs.Plain.{is_plain}
 use Rattle.arz_session.specs.declared.session.Line.{Line}
 use Rattle.arz_machine.specs.At.{Standing, At}
 use Rattle.arz_machine.specs.Rests.{lacks_answer}
 use Rattle.arz_machine.specs.States.{Sends}
-use Rattle.arz_session.specs.Mock.{line_of, lines_from, lines_of, answers, HasEnded, IsCut}
-use Rattle.arz_session.specs.Played.{IsPlayed, IsStopped, Plays}
+use Rattle.arz_session.specs.Mock.{line_of, lines_from, lines_of, answers, HasEnded, IsCut, Comes, OnlyWhereRose}
+use Rattle.arz_session.specs.Played.{IsPlayed, IsStopped, Plays, outcome_by}
 use Rattle.arz_session.specs.declared.session.How.TheVariants.{Mock}
 use Rattle.arz_machine.proofs.MachineAt.{at_fits, lacks_reply, is_waiting}
 
@@ -187,16 +190,6 @@ module _ (told : Patterned) (b : Bundle) (m : Standing) (replies : List Reply) (
 
 -- ---- what a run came to
 
--- by the replies and the lines as they are kept
-module _ (told : Patterned) (b : Bundle) (replies read : List Reply) (m : Standing) (kept lines : List Line) (pattern : Bool) (same : read ≡ replies) (is : kept ≡ lines) (plays : Plays pattern told b read m lines) where
-  pub was_stopped : pattern ≡ true → IsStopped told b replies m kept
-  was_stopped e =
-      subst (IsStopped told b replies m) (sym is) (subst (λ rs. IsStopped told b rs m lines) same (subst (λ p. Plays p told b read m lines) e plays))
-
-  pub was_played : pattern ≡ false → IsPlayed told b replies m kept
-  was_played e =
-      subst (IsPlayed told b replies m) (sym is) (subst (λ rs. IsPlayed told b rs m lines) same (subst (λ p. Plays p told b read m lines) e plays))
-
 module _ (told : Patterned) (b : Bundle) (replies : List Reply) (m : Standing) (lines : List Line) where
   pub has_ended : IsPlayed told b replies m lines → (e : End) → ((r : List Answer) → At told m b r → IsTold told b r → end told b r ≡ Some e)
       → IsTold told b (answers replies) → HasEnded told b replies lines e
@@ -236,3 +229,26 @@ module _ (told : Patterned) (b : Bundle) (replies : List Reply) (m : Standing) (
       let waiting = is_waiting told m b (answers s.used) s.at s.request s.waits in
       let lt : m.step < length (steps_of b b.workflow) = slice_get_within (steps_of b b.workflow) m.step waiting.step waiting.there in
       omega (arith, s.count, length-map s.used Replied, s.at.count, lt, valid.few)
+
+-- ---- by whether a pattern was too big
+
+module _ (told : Patterned) (b : Bundle) (replies read : List Reply) (m : Standing) (kept lines : List Line) (same : read ≡ replies) (is : kept ≡ lines) where
+  plays_as : (pattern : Bool) → Plays pattern told b read m lines → Plays pattern told b replies m kept
+  plays_as pattern plays = subst (Plays pattern told b replies m) (sym is) (subst (λ rs. Plays pattern told b rs m lines) same plays)
+
+  pub few_by : IsValid b → (pattern : Bool) → Plays pattern told b read m lines → length kept ≤ steps_limit
+  few_by valid false p = few_played told b replies m kept valid (plays_as false p)
+  few_by valid true s = few_stopped told b replies m kept valid (plays_as true s)
+
+  pub came_by : (pattern : Bool) → Plays pattern told b read m lines → (e : End) → ((r : List Answer) → At told m b r → IsTold told b r → end told b r ≡ Some e)
+      → IsTold told b (answers replies) → Comes told b replies kept (outcome_by pattern e)
+  came_by false p e ends = has_ended told b replies m kept (plays_as false p) e ends
+  came_by true s e ends = is_cut told b replies m kept (plays_as true s)
+
+pub plain_by : (pattern : Bool) (e : End) → has_plain_outputs e ≡ true → is_plain (outcome_by pattern e) ≡ true
+plain_by false e plain = plain
+plain_by true e plain = refl
+
+pub rose_by : (b : Bundle) (old new : PatternsView) (pattern : Bool) (e : End) → (pattern ≡ true → Rose old.too_big new.too_big) → (pattern ≡ true → asks_patterns b ≡ true) → OnlyWhereRose b old new (outcome_by pattern e)
+rose_by b old new false e rose asks = tt
+rose_by b old new true e rose asks = (rose refl, asks refl)

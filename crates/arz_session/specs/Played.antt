@@ -4,6 +4,7 @@ use Rattle.arz_world.specs.declared.Reply.{Reply}
 use Rattle.arz_world.specs.declared.Request.{Request}
 use Rattle.arz_flow.specs.declared.answers.Ask.{Ask}
 use Rattle.arz_flow.specs.declared.answers.Ask.TheVariants.{Send}
+use Rattle.arz_flow.specs.declared.answers.End.{End}
 use Rattle.arz_flow.specs.declared.answers.End.TheVariants.{Out}
 use Rattle.arz_flow.specs.declared.bundle.Bundle.{Bundle}
 use Rattle.arz_flow.specs.Executions.{asks, end, IsTold}
@@ -11,6 +12,8 @@ use Rattle.arz_flow.specs.Verdicts.{Patterned}
 use Rattle.arz_machine.specs.At.{Standing, At}
 use Rattle.arz_machine.specs.States.{Sends}
 use Rattle.arz_session.specs.declared.session.Line.{Line}
+use Rattle.arz_session.specs.declared.session.Outcome.{Outcome}
+use Rattle.arz_session.specs.declared.session.Outcome.TheVariants.{Ended, Pattern as Cut}
 use Rattle.arz_session.specs.Mock.{answers, lines_of}
 
 -- the replies of the front were taken, each with its line; all of them where an answer is lacking
@@ -39,3 +42,8 @@ pub record IsStopped (told : Patterned) (b : Bundle) (replies : List Reply) (m :
 abbrev pub Plays : Bool → Patterned → Bundle → List Reply → Standing → List Line → Type 0
 Plays false = IsPlayed
 Plays true = IsStopped
+
+-- how a session ended: for a pattern that was too big, or at this end
+abbrev pub outcome_by : Bool → End → Outcome
+outcome_by true e = Cut
+outcome_by false e = Ended e

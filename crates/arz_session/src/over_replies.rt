@@ -9,10 +9,10 @@ ghost use Rattle.arz_machine.specs.States.{is_sending};
 ghost use Rattle.arz_path.specs.Results.{Asked};
 ghost use Rattle.arz_rx.specs.Patterns.{Rose};
 ghost use Rattle.arz_session.specs.Mock.{IsMock, OnlyWhereRose};
-ghost use Rattle.arz_session.specs.Played.{Plays};
+ghost use Rattle.arz_session.specs.Played.{Plays, outcome_by};
 
 use crate::session::{How, Line, Outcome, Session};
-use arz_flow::{Bundle, send_text};
+use arz_flow::{Bundle, End, send_text};
 use arz_json::Many;
 use arz_machine::{Machine, MachineFault, Next};
 use arz_rx::Patterns;
@@ -36,13 +36,21 @@ pub fn mock<P: Patterns>(
     let mut machine = Machine::start(alloc, bundle)?;
     let mut lines = Vec::new(alloc);
     let pattern = play(alloc, &mut machine, replies.as_slice(), &mut lines, rx)?;
-    let lines = Many::from_std(lines);
+    Ok(Session {
+        lines: Many::from_std(lines),
+        outcome: outcome(machine.into_end(), pattern),
+    })
+}
+
+// How a session ended: for a pattern that was too big, or at this end.
+fn outcome(end: End, pattern: bool) -> Outcome
+    ensures { result ≡ outcome_by pattern end }
+{
     if pattern {
-        let outcome = Outcome::Pattern;
-        return Ok(Session { lines, outcome });
+        Outcome::Pattern
+    } else {
+        Outcome::Ended(end)
     }
-    let outcome = Outcome::Ended(machine.into_end());
-    Ok(Session { lines, outcome })
 }
 
 // Tells a machine the replies, up to its end, and adds the line of each. It stops where a pattern is too big, and says so.

@@ -160,8 +160,15 @@ module _ (before now : FilesView) (old new : PatternsView) (command : Command) (
         reading-one label (λ root. Taken (document label root) Then) before now o.path
         (λ root file. taken-one (document label root) Then (λ d is. applied-one old new (sure.sized (inl here)) Rest (overlaid old.told d tree)
         (λ made says within. overlaid-one os (λ more. here) made
-        (λ last makes. one last (inl (file.0, file.1, inl (root, file.2,
-            subst (λ r. Taken r (λ e. Applied old new (overlaid old.told e tree) (λ t. Overlaid before now old new os t Made)) (Ok last)) (sym is) (inl (made, says, within, makes)))))))
+        (λ last makes. one last (inl (
+          file.0,
+          file.1,
+          inl (
+            root,
+            file.2,
+            subst (λ r. Taken r (λ e. Applied old new (overlaid old.told e tree) (λ t. Overlaid before now old new os t Made)) (Ok last)) (sym is) (inl (made, says, within, makes)),
+          ),
+        ))))
         (sure.overlays here o.path label root tree d file is)))
         steady
 

@@ -317,9 +317,10 @@ module _ (files files_now : FilesView) (patterns patterns_now : PatternsView) (c
     file = λ is. let r = at-13 w.ending (sym w.answered ∙ is) in
         (r.0, file-cause files files_now patterns patterns_now command r.0 (subst Came r.1 w.came), subst (λ e. Gains sink.held sink_now.held (λ added. added ≡ report e)) r.1 w.put);
     out = λ is. let r = at-14 w.ending (sym w.answered ∙ is) in (r.0, r.1, subst Came r.2 w.came, r.3);
-    pattern = λ is. let st = sym w.answered ∙ is in
-        (pattern-rose files files_now patterns patterns_now w.ending st (pattern-cause files files_now patterns patterns_now command w.ending w.came st),
-        Gains-wider _ _ sink.held sink_now.held (pattern-report files files_now patterns patterns_now w.ending st) w.put);
+    pattern = λ is. let st = sym w.answered ∙ is in (
+      pattern-rose files files_now patterns patterns_now w.ending st (pattern-cause files files_now patterns patterns_now command w.ending w.came st),
+      Gains-wider _ _ sink.held sink_now.held (pattern-report files files_now patterns patterns_now w.ending st) w.put,
+    );
     whole = λ a b. (w.ending, w.came, w.answered, w.put);
     succeeds = λ a b. (w.ending, w.came, w.answered);
     exact = λ steady sure a b. exactly Came answer w.ending w.answered (λ other came. one_ending files files_now patterns patterns_now command w.ending other steady sure w.came came);

@@ -31,5 +31,5 @@ asking_nothing before now old new command no-overlay no-pattern no-judgement = r
   overlays = λ has. absurd (no-overlay has);
   readings = λ setup description is made. none_read before now old new command no-pattern setup description is made (patterns_in description) refl;
   run = λ bundle replies is asks. absurd (no-judgement (bundle, replies, is, asks));
-  sized = λ asks rose. elim asks [ | inl o ↦ no-overlay o | inr (inl p) ↦ no-pattern p | inr (inr j) ↦ no-judgement j ];
+  sized = λ asks rose. elim asks [ inl o ↦ no-overlay o | inr (inl p) ↦ no-pattern p | inr (inr j) ↦ no-judgement j ];
 }
