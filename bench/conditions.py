@@ -6,6 +6,7 @@
 - the time of 51,200 evaluations of one criterion, 200 at each of 256 steps, over that of Python's comparisons, or of
   its re module, on the same values as often. It is what `mock` takes more than `check`, less the same of a description
   with the criteria under a name that is passed over; so the machine's reading of each criterion is in it;
+- the time of a filter with a query that begins at the root, over that of a filter without one, over 100,000 numbers;
 - the memory of queries that go through many nodes or could keep much of them, above what the same reply takes with a
   simple criterion, and of the whole run,
 
@@ -132,6 +133,23 @@ def evaluations(program, folder, name):
     print(f"{count} evaluations of {name}: {took:.3f} s, {rate}, {took / rival:.1f} of Python's")
 
 
+def absolute_queries(program, folder):
+    """A query inside a filter that begins at the root, against a filter without one, each above a simple criterion."""
+    replies = [{"status": 200, "body": list(range(100_000))}]
+    queries = {"plain": None, "$[?@ > 1]": "completed", "$[?count($[*]) > @]": "completed", "$[?count($[*]) < @]": "broke"}
+    commands = {}
+    for number, (query, ending) in enumerate(queries.items()):
+        criterion = {"condition": query, "context": "$response.body", "type": "jsonpath"}
+        if ending is None:
+            criterion, ending = {"condition": "$response.body != 1"}, "completed"
+        found = one_step(program, folder, f"filter{number}", criterion, replies, ending)
+        commands[query] = found["mock", f"filter{number}"]
+    cost = {query: seconds for query, (seconds, _) in medians(commands, RUNS, folder).items()}
+    over = lambda query: max(cost[query] - cost["plain"], 1e-6)
+    for query in list(queries)[2:]:
+        print(f"{query} over 100,000 numbers: {over(query):.3f} s, {over(query) / over('$[?@ > 1]'):.1f} of $[?@ > 1] (aim: at most 10)")
+
+
 def wide_queries(program, folder):
     """The memory of queries over large replies."""
     deep = [0] * 8_000
@@ -171,6 +189,7 @@ def main():
         large_conditions(program, folder)
         for name in CRITERIA:
             evaluations(program, folder, name)
+        absolute_queries(program, folder)
         wide_queries(program, folder)
 
 

@@ -7,6 +7,7 @@ pub mod Slices
 pub mod Levels
 pub mod Equality
 pub mod Parts
+pub mod Absolute
 pub mod Bridge
 pub mod Walks
 pub mod Steps

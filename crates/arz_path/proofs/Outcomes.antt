@@ -65,5 +65,13 @@ joined_stop {Y = Y} w f old x xs h k = covers_trans w _ _ h (last (f x) k)
     last wide k = refl
     last untold k = tt
 
+pub joined_begin : {Y : Type 0} (old : List Y) → old ≡ [] → (o : Outcome (List Y)) → Covers o (joined old o)
+joined_begin {Y = Y} old none o = subst (λ ys. Covers o (joined ys o)) (sym none) (of o)
+  where
+    of : (o : Outcome (List Y)) → Covers o (joined [] o)
+    of (given ys) = refl
+    of wide = refl
+    of untold = tt
+
 pub joined_none : {Y : Type 0} (w : Outcome (List Y)) (old : List Y) → Covers w (joined old (given [])) → Covers w (given old)
 joined_none w old h = subst (λ ys. Covers w (given ys)) (append-nil old) h

@@ -7,3 +7,4 @@ pub mod Finding
 pub mod Begins
 pub mod Spots
 pub mod Seen
+pub mod Absolute

@@ -4,13 +4,14 @@ ghost use Rattle.std.specs.List.{list_any, list_all};
 ghost use Rattle.arz_path.specs.Outcome.{outcome_map};
 ghost use Rattle.arz_path.specs.Tree.{children};
 ghost use Rattle.arz_path.specs.Selected.{widest, test_meaning, operand_meaning};
-ghost use Rattle.arz_path.specs.Begins.{begun};
+ghost use Rattle.arz_path.specs.Absolute.{telling, absolute, queries_of_test, queries_of_tests, queries_of_operand, found_at, Fits, Passed};
 ghost use Rattle.arz_path.specs.Spots.{grown, sifted, picked_at, chosen_at, chosen_each, reached, spots_after, spots_after_all};
 ghost use Rattle.arz_path.specs.Seen.{seen, all_seen, bits_seen, worth_seen, found_seen, found_in, found_all, tested_all, way, ahead};
 ghost use Rattle.arz_path.specs.Results.{Asked, Answers, bit_seen, setting_of};
 
 use crate::SelectFault;
 use crate::children::Children;
+use crate::known::Known;
 use crate::nodes::{Found, Held, found_among};
 use crate::push::{add_child, add_children, add_item, add_named, add_slice};
 use crate::search::is_match;
@@ -186,8 +187,10 @@ fn sift<'t, 'a, P: Patterns>(
     ensures room { length out.new.items ≤ widest }
 {
     let mut children = Children::of(walk.value());
+    let mut known = Known::nothing(alloc);
     'children: while let Some(child) = children.next() {
-        if !holds(test, alloc, root, child.value, rx)? {
+        known.rewind();
+        if !holds(test, alloc, root, child.value, &mut known, rx)? {
             continue;
         }
         add_child(bump, walk, child, out)?;
@@ -202,33 +205,36 @@ fn holds<'a, P: Patterns>(
     alloc: Global,
     root: &'a Json,
     current: &'a Json,
+    known: &mut Known<'a>,
     rx: &mut P,
 ) -> Result<bool, SelectFault>
+    requires { Fits (setting_of (P.patterns rx.old) root.now) (queries_of_test test.now) (telling known.old).1 }
     ensures gives { Answers bit_seen result (test_meaning test.now (setting_of (P.patterns rx.old) root.now) current.now)
         (P.patterns rx.old) (P.patterns rx.new) }
     ensures asked { Asked (P.patterns rx.old) (P.patterns rx.new) }
+    ensures passed { OnOk result (Passed (setting_of (P.patterns rx.old) root.now) (queries_of_test test.now) (telling known.old) (telling known.new)) }
 {
     match test {
-        Test::Any(tests) => Ok(any_of(hold_each(tests, alloc, root, current, rx)?)),
-        Test::All(tests) => Ok(all_of(hold_each(tests, alloc, root, current, rx)?)),
-        Test::Not(test) => Ok(!holds(test.get(), alloc, root, current, rx)?),
+        Test::Any(tests) => Ok(any_of(hold_each(tests, alloc, root, current, known, rx)?)),
+        Test::All(tests) => Ok(all_of(hold_each(tests, alloc, root, current, known, rx)?)),
+        Test::Not(test) => Ok(!holds(test.get(), alloc, root, current, known, rx)?),
         Test::Exists(start, segments) => {
-            let found = found_from(segments, *start, alloc, root, current, rx)?;
+            let found = found_from(segments, *start, alloc, root, current, known, rx)?;
             Ok(found.count > 0)
         }
         Test::Compare(left, comparison, right) => {
-            let left = value_of(left, alloc, root, current, rx)?;
-            let right = value_of(right, alloc, root, current, rx)?;
+            let left = value_of(left, alloc, root, current, known, rx)?;
+            let right = value_of(right, alloc, root, current, known, rx)?;
             Ok(compare(left, *comparison, right))
         }
         Test::Match(text, pattern) => {
-            let text = value_of(text, alloc, root, current, rx)?;
-            let pattern = value_of(pattern, alloc, root, current, rx)?;
+            let text = value_of(text, alloc, root, current, known, rx)?;
+            let pattern = value_of(pattern, alloc, root, current, known, rx)?;
             is_match(alloc, true, text, pattern, rx)
         }
         Test::Search(text, pattern) => {
-            let text = value_of(text, alloc, root, current, rx)?;
-            let pattern = value_of(pattern, alloc, root, current, rx)?;
+            let text = value_of(text, alloc, root, current, known, rx)?;
+            let pattern = value_of(pattern, alloc, root, current, known, rx)?;
             is_match(alloc, false, text, pattern, rx)
         }
     }
@@ -253,15 +259,18 @@ fn hold_each<'a, P: Patterns>(
     alloc: Global,
     root: &'a Json,
     current: &'a Json,
+    known: &mut Known<'a>,
     rx: &mut P,
 ) -> Result<Vec<bool>, SelectFault>
+    requires { Fits (setting_of (P.patterns rx.old) root.now) (queries_of_tests tests.now) (telling known.old).1 }
     ensures gives { Answers bits_seen result (tested_all (setting_of (P.patterns rx.old) root.now) current.now tests.now)
         (P.patterns rx.old) (P.patterns rx.new) }
     ensures asked { Asked (P.patterns rx.old) (P.patterns rx.new) }
+    ensures passed { OnOk result (Passed (setting_of (P.patterns rx.old) root.now) (queries_of_tests tests.now) (telling known.old) (telling known.new)) }
 {
     let mut all = Vec::new(alloc);
     for test in tests.as_slice() {
-        let bit = holds(test, alloc, root, current, rx)?;
+        let bit = holds(test, alloc, root, current, known, rx)?;
         all.push(bit)?;
     }
     Ok(all)
@@ -274,11 +283,14 @@ fn value_of<'a, P: Patterns>(
     alloc: Global,
     root: &'a Json,
     current: &'a Json,
+    known: &mut Known<'a>,
     rx: &mut P,
 ) -> Result<Worth<'a>, SelectFault>
+    requires { Fits (setting_of (P.patterns rx.old) root.now) (queries_of_operand operand.now) (telling known.old).1 }
     ensures gives { Answers worth_seen result (operand_meaning operand.now (setting_of (P.patterns rx.old) root.now) current.now)
         (P.patterns rx.old) (P.patterns rx.new) }
     ensures asked { Asked (P.patterns rx.old) (P.patterns rx.new) }
+    ensures passed { OnOk result (Passed (setting_of (P.patterns rx.old) root.now) (queries_of_operand operand.now) (telling known.old) (telling known.new)) }
 {
     match operand {
         Operand::Null => Ok(Worth::Null),
@@ -286,25 +298,25 @@ fn value_of<'a, P: Patterns>(
         Operand::Int(n) => Ok(Worth::Int(*n)),
         Operand::Text(text) => Ok(Worth::Text(text.as_str())),
         Operand::Query(start, segments) => {
-            let found = found_from(segments, *start, alloc, root, current, rx)?;
+            let found = found_from(segments, *start, alloc, root, current, known, rx)?;
             Ok(worth_of(found.only))
         }
         Operand::Length(operand) => {
-            let worth = value_of(operand.get(), alloc, root, current, rx)?;
+            let worth = value_of(operand.get(), alloc, root, current, known, rx)?;
             Ok(length_of(worth))
         }
         Operand::Count(start, segments) => {
-            let found = found_from(segments, *start, alloc, root, current, rx)?;
+            let found = found_from(segments, *start, alloc, root, current, known, rx)?;
             Ok(worth_of_count(found.count))
         }
         Operand::Value(start, segments) => {
-            let found = found_from(segments, *start, alloc, root, current, rx)?;
+            let found = found_from(segments, *start, alloc, root, current, known, rx)?;
             Ok(worth_of(found.only))
         }
     }
 }
 
-/// What a query inside a filter finds.
+/// What a query inside a filter finds. One that begins at the root is evaluated where nothing is known of it.
 #[cycle(evaluate)]
 fn found_from<'a, P: Patterns>(
     segments: &'a Items<Segment>,
@@ -312,25 +324,43 @@ fn found_from<'a, P: Patterns>(
     alloc: Global,
     root: &'a Json,
     current: &'a Json,
+    known: &mut Known<'a>,
     rx: &mut P,
 ) -> Result<Found<'a>, SelectFault>
+    requires { Fits (setting_of (P.patterns rx.old) root.now) (absolute start segments.now) (telling known.old).1 }
     ensures gives { Answers found_seen result (outcome_map found_in (found_all (setting_of (P.patterns rx.old) root.now) current.now start segments.now))
+        (P.patterns rx.old) (P.patterns rx.new) }
+    ensures asked { Asked (P.patterns rx.old) (P.patterns rx.new) }
+    ensures passed { OnOk result (Passed (setting_of (P.patterns rx.old) root.now) (absolute start segments.now) (telling known.old) (telling known.new)) }
+{
+    match start {
+        Start::Current => find(segments, alloc, root, current, rx),
+        Start::Root => {
+            if let Some(found) = known.recall() {
+                return Ok(found);
+            }
+            let found = find(segments, alloc, root, root, rx)?;
+            known.add(found)?;
+            Ok(found)
+        }
+    }
+}
+
+/// What a query finds from a value.
+#[cycle(evaluate)]
+fn find<'a, P: Patterns>(
+    segments: &'a Items<Segment>,
+    alloc: Global,
+    root: &'a Json,
+    value: &'a Json,
+    rx: &mut P,
+) -> Result<Found<'a>, SelectFault>
+    ensures gives { Answers found_seen result (found_at (setting_of (P.patterns rx.old) root.now) segments.now value.now)
         (P.patterns rx.old) (P.patterns rx.new) }
     ensures asked { Asked (P.patterns rx.old) (P.patterns rx.new) }
 {
     let bump = Bump::new(alloc);
-    let value = begin(start, root, current);
     let origin = Held { trail: None, value };
     let nodes = nodes_after(segments, alloc, &bump, root, origin, rx)?;
     Ok(found_among(nodes.as_slice()))
-}
-
-/// The value where a query inside a filter begins.
-fn begin<'a>(start: Start, root: &'a Json, current: &'a Json) -> &'a Json
-    ensures { result.now ≡ begun start root.now current.now }
-{
-    match start {
-        Start::Root => root,
-        Start::Current => current,
-    }
 }

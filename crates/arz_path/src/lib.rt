@@ -5,6 +5,7 @@ mod children;
 mod evaluate;
 mod fault;
 mod finding;
+mod known;
 pub mod laws;
 mod nodes;
 mod pick;

@@ -1,4 +1,4 @@
-use Rattle.std.proofs.Common.{pos, rules, arith, ◌≡◌, [], ◌∷◌, ◌++◌, ◌+◌, map, drop, ℕ, List, true, false, not, nat_lt, Bool, cond, Ok, Option, Some, None, refl, sym, ap, ap₂, subst, ◌∙◌, append-nil}
+use Rattle.std.proofs.Common.{pos, rules, arith, ◌≡◌, [], ◌∷◌, ◌++◌, ◌+◌, map, take, drop, ℕ, List, true, false, not, nat_lt, Bool, cond, Ok, Option, Some, refl, sym, ap, ap₂, subst, ◌∙◌, append-nil}
 use Rattle.std.proofs.lemmas.Grind.{common_steps}
 use Rattle.std.proofs.lemmas.Int.{to_z-of_z}
 use mir.Val.{to_z, of_z, SFits}
@@ -12,6 +12,7 @@ use Rattle.arz_query.specs.declared.query.Selector.TheVariants as selector
 use Rattle.arz_query.specs.declared.query.Segment.{Segment}
 use Rattle.arz_query.specs.declared.query.Selector.{Selector}
 use Rattle.arz_query.specs.declared.query.Test.{Test}
+use Rattle.arz_query.specs.declared.query.Operand.{the_lemmas}
 use Rattle.arz_path.specs.declared.nodes.Held.{Held}
 use Rattle.arz_path.specs.Outcome.{given, outcome_map, each, Covers}
 use Rattle.arz_path.specs.Tree.{children}
@@ -19,11 +20,14 @@ use Rattle.arz_path.specs.Values.{compared, length_of}
 use Rattle.arz_path.specs.Selected.{told_of, is_some_node, only, count_of, searched_in, test_meaning, operand_meaning}
 use Rattle.arz_path.specs.Spots.{Spot, spots_below, within, down, grown, joined, sifted, picked_at, chosen_at, chosen_each, reached, spots_after, spots_after_all}
 use Rattle.arz_path.specs.Seen.{seen, branch_of, coming, way, ahead, worth_seen, all_seen, bits_seen, found_seen, found_in, spots_found, found_all, tested_all}
+use Rattle.arz_path.specs.Absolute.{Finding, telling, absolute, queries_of_test, queries_of_tests, queries_of_operand, found_at, Fits, Passed}
 use Rattle.arz_path.specs.Results.{Fails, cause, bit_seen, setting_of}
-use Rattle.arz_path.proofs.Outcomes.{through_map}
-use Rattle.arz_path.proofs.Faults.{asked_then, same_setting, fails_from, fails_map, fails_grows, exit, answers_later, pair_given, grown_given}
+use Rattle.arz_query.specs.declared.query.Start.TheVariants.{Root, Current}
+use Rattle.arz_path.proofs.Outcomes.{covers_same, joined_begin, through_map}
+use Rattle.arz_path.proofs.Absolute.{queries-Any, queries-All, queries-Not, queries-Exists, queries-Compare, queries-Match, queries-Search, queries-Null, queries-Flag, queries-Int, queries-Text, queries-Query, queries-Length, queries-Count, queries-Value, fits_none, fits_first, fits_next, fits_then, fits_round, fits_rounds, passed_none, passed_then, tests_begin, tests_fit, tests_step, tests_end, found-from, on_ok}
+use Rattle.arz_path.proofs.Faults.{asked_same, asked_then, same_setting, fails_from, fails_map, fails_grows, exit, answers_later, pair_given, grown_given}
 use Rattle.arz_path.proofs.Parts.{test-Any, test-All, test-Exists, operand-Query, operand-Value, operand-Count, of_found, some_found}
-use Rattle.arz_path.proofs.Bridge.{picked-Name, picked-Wildcard, answers-Index, picked-Slice, picked-Filter, reached-Child, reached-Descendant, found-spots}
+use Rattle.arz_path.proofs.Bridge.{picked-Name, picked-Wildcard, answers-Index, picked-Slice, picked-Filter, reached-Child, reached-Descendant}
 use Rattle.arz_path.proofs.Meanings.{meaning-Not, meaning-Length, meaning-Compare, meaning-Match, meaning-Search}
 use Rattle.arz_path.proofs.Levels.{ahead_first}
 use Rattle.arz_path.proofs.Steps.{seen_room, sifted_skip, sifted_take, sifted_wide, sifted_fault, tested_step, tested_fault, run_step, run_fault, reached_step, reached_fault, below_step, below_fault, chosen_step, chosen_fault, sifted_end, tested_end, run_end, reached_end, below_end, chosen_end}
@@ -198,6 +202,7 @@ sift-children-preserved-then-not-branch g t c =
       asked_then _ _ _ l.invariant.1 c.in_ok-holds.ensures.asked,
       l.invariant.2,
       l.invariant.3,
+      fits_rounds (setting_of (g.P.Patterns.patterns c.args.rx.now) c.args.root.now) (setting_of (g.P.Patterns.patterns c.children.rx) c.args.root.now) (same_setting (g.P.Patterns.patterns c.args.rx.now) (g.P.Patterns.patterns c.children.rx) c.args.root.now l.invariant.1) (queries_of_test c.args.test.now) (telling l.known) (telling c.rewind.new.self) (telling c.holds.new.known) c.rewind.ensures c.in_ok-holds.ensures.passed,
     )
 
 pub sift-children-preserved : goal.sift-children-preserved
@@ -212,6 +217,7 @@ sift-children-preserved g t c =
       asked_then _ _ _ l.invariant.1 c.in_ok-holds.ensures.asked,
       c.in_ok-add_child.ensures.room,
       c.in_ok-add_child.ensures.same ∙ l.invariant.3,
+      fits_rounds (setting_of (g.P.Patterns.patterns c.args.rx.now) c.args.root.now) (setting_of (g.P.Patterns.patterns c.children.rx) c.args.root.now) (same_setting (g.P.Patterns.patterns c.args.rx.now) (g.P.Patterns.patterns c.children.rx) c.args.root.now l.invariant.1) (queries_of_test c.args.test.now) (telling l.known) (telling c.rewind.new.self) (telling c.holds.new.known) c.rewind.ensures c.in_ok-holds.ensures.passed,
     )
 
 pub sift-returns-in_err-add_child-clause-gives : goal.sift-returns-in_err-add_child-clause-gives
@@ -225,27 +231,57 @@ sift-returns-in_err-add_child-clause-gives g t c =
     exit _ c.from_residual-in_err-add_child.result c.in_err-add_child.field-0.0 _ _ _ c.from_residual-in_err-add_child.ensures.1
     (fails_grows c.in_err-add_child.field-0.0 _ _ _ _ (sifted_wide (setting_of (g.P.Patterns.patterns c.args.rx.now) c.args.root.now) (setting_of (g.P.Patterns.patterns c.children.rx) c.args.root.now) (same_setting (g.P.Patterns.patterns c.args.rx.now) (g.P.Patterns.patterns c.children.rx) c.args.root.now c.children.invariant.1) c.args.test.now (way c.args.walk.now).0 (grown (map seen c.args.out.now.items) (sifted (setting_of (g.P.Patterns.patterns c.args.rx.now) c.args.root.now) c.args.test.now (way c.args.walk.now).0 (children (way c.args.walk.now).0.1))) (map seen l.out.items) (branch_of child) _ _ cut l.invariant.0 told) refused)
 
+pub sift-children-init : goal.sift-children-init
+sift-children-init g t c = (
+  subst (λ cs. Covers (grown (map seen c.args.out.now.items) (sifted (setting_of (g.P.Patterns.patterns c.args.rx.now) c.args.root.now) c.args.test.now (way c.args.walk.now).0 (children (way c.args.walk.now).0.1))) (grown (map seen c.args.out.now.items) (sifted (setting_of (g.P.Patterns.patterns c.args.rx.now) c.args.root.now) c.args.test.now (way c.args.walk.now).0 cs))) (sym (c.of-children.ensures ∙ ap children c.value.ensures)) (covers_same _),
+  asked_same _,
+  c.requires,
+  refl,
+  subst (λ (p : List Finding × List Finding). Fits (setting_of (g.P.Patterns.patterns c.args.rx.now) c.args.root.now) (queries_of_test c.args.test.now) (p.0 ++ p.1)) (sym c.nothing-known.ensures) (fits_none (setting_of (g.P.Patterns.patterns c.args.rx.now) c.args.root.now) (queries_of_test c.args.test.now)),
+)
+
+pub sift-holds-requires : goal.sift-holds-requires
+sift-holds-requires g t c =
+    let l = c.children in
+    λ κs le. (search (rules, the_lemmas), (search rules, fits_round (setting_of (g.P.Patterns.patterns c.args.rx.now) c.args.root.now) (setting_of (g.P.Patterns.patterns c.children.rx) c.args.root.now) (same_setting (g.P.Patterns.patterns c.args.rx.now) (g.P.Patterns.patterns c.children.rx) c.args.root.now l.invariant.1) (queries_of_test c.args.test.now) (telling l.known) (telling c.rewind.new.self) c.rewind.ensures l.invariant.4))
+
 pub sift-returns-clause-gives : goal.sift-returns-clause-gives
 sift-returns-clause-gives g t c =
     let l = c.children in
     let none : coming l.children ≡ [] = c.in_default.ensures in
     sifted_end (setting_of (g.P.Patterns.patterns c.args.rx.now) c.args.root.now) c.args.test.now (way c.args.walk.now).0 _ l.out.items l.invariant.2 (subst (λ cs. Covers (grown (map seen c.args.out.now.items) (sifted (setting_of (g.P.Patterns.patterns c.args.rx.now) c.args.root.now) c.args.test.now (way c.args.walk.now).0 (children (way c.args.walk.now).0.1))) (grown (map seen l.out.items) (sifted (setting_of (g.P.Patterns.patterns c.args.rx.now) c.args.root.now) c.args.test.now (way c.args.walk.now).0 cs))) none l.invariant.0)
 
-pub found_from-returns-in_err-nodes-clause-gives : goal.found_from-returns-in_err-nodes-clause-gives
-found_from-returns-in_err-nodes-clause-gives g t c =
-    let is : outcome_map found_in (found_all (setting_of (g.P.Patterns.patterns c.args.rx.now) c.args.root.now) c.args.current.now c.args.start c.args.segments.now) ≡ outcome_map spots_found (spots_after_all (setting_of (g.P.Patterns.patterns c.args.rx.now) c.args.root.now) c.args.segments.now ((None, c.begin-value.result.now) ∷ []))
-    = found-spots (setting_of (g.P.Patterns.patterns c.args.rx.now) c.args.root.now) c.args.current.now c.args.start c.args.segments.now
-    ∙ ap (λ j. outcome_map spots_found (spots_after_all (setting_of (g.P.Patterns.patterns c.args.rx.now) c.args.root.now) c.args.segments.now ((None, j) ∷ []))) (sym c.begin-value.ensures) in
+pub find-returns-in_err-nodes-clause-gives : goal.find-returns-in_err-nodes-clause-gives
+unfolding found_at
+find-returns-in_err-nodes-clause-gives g t c =
     exit found_seen c.from_residual.result c.in_err-nodes.field-0.0 _ _ _ c.from_residual.ensures.1
-    (fails_map _ spots_found _ _ _ _ is c.in_err-nodes.ensures.gives)
+    (fails_map _ spots_found _ _ _ _ refl c.in_err-nodes.ensures.gives)
 
-pub found_from-returns-clause-gives : goal.found_from-returns-clause-gives
-found_from-returns-clause-gives g t c =
-    let is : outcome_map found_in (found_all (setting_of (g.P.Patterns.patterns c.args.rx.now) c.args.root.now) c.args.current.now c.args.start c.args.segments.now) ≡ outcome_map spots_found (spots_after_all (setting_of (g.P.Patterns.patterns c.args.rx.now) c.args.root.now) c.args.segments.now ((None, c.begin-value.result.now) ∷ []))
-    = found-spots (setting_of (g.P.Patterns.patterns c.args.rx.now) c.args.root.now) c.args.current.now c.args.start c.args.segments.now
-    ∙ ap (λ j. outcome_map spots_found (spots_after_all (setting_of (g.P.Patterns.patterns c.args.rx.now) c.args.root.now) c.args.segments.now ((None, j) ∷ []))) (sym c.begin-value.ensures) in
+pub find-returns-clause-gives : goal.find-returns-clause-gives
+unfolding found_at
+find-returns-clause-gives g t c =
     let seen_all : found_seen c.found_among.result ≡ spots_found (map seen c.in_ok-nodes.nodes.items) = grind (arith, common_steps) in
-    rw (seen_all, is) (through_map spots_found _ _ c.in_ok-nodes.ensures.gives)
+    rw seen_all (through_map spots_found _ _ c.in_ok-nodes.ensures.gives)
+
+pub found_from-returns-in-Current-clause-gives : goal.found_from-returns-in-Current-clause-gives
+found_from-returns-in-Current-clause-gives g t c =
+    let is = ap (λ start. outcome_map found_in (found_all (setting_of (g.P.Patterns.patterns c.args.rx.now) c.args.root.now) c.args.current.now start c.args.segments.now)) c.in-Current.is ∙ found-from (setting_of (g.P.Patterns.patterns c.args.rx.now) c.args.root.now) c.args.current.now Current c.args.segments.now in
+    rw is c.find.ensures.gives
+
+pub found_from-returns-in-Some-clause-gives : goal.found_from-returns-in-Some-clause-gives
+found_from-returns-in-Some-clause-gives g t c =
+    let is = ap (λ start. outcome_map found_in (found_all (setting_of (g.P.Patterns.patterns c.args.rx.now) c.args.root.now) c.args.current.now start c.args.segments.now)) c.in-Root.is ∙ found-from (setting_of (g.P.Patterns.patterns c.args.rx.now) c.args.root.now) c.args.current.now Root c.args.segments.now in
+    rw is (fits_next (setting_of (g.P.Patterns.patterns c.args.rx.now) c.args.root.now) c.args.segments.now _ _ _ c.in-Some.ensures.0 (subst (λ start. Fits (setting_of (g.P.Patterns.patterns c.args.rx.now) c.args.root.now) (absolute start c.args.segments.now) (telling c.args.known.now).1) c.in-Root.is c.requires))
+
+pub found_from-returns-in_err-found-in-Root-clause-gives : goal.found_from-returns-in_err-found-in-Root-clause-gives
+found_from-returns-in_err-found-in-Root-clause-gives g t c =
+    let is = ap (λ start. outcome_map found_in (found_all (setting_of (g.P.Patterns.patterns c.args.rx.now) c.args.root.now) c.args.current.now start c.args.segments.now)) c.in-Root.is ∙ found-from (setting_of (g.P.Patterns.patterns c.args.rx.now) c.args.root.now) c.args.current.now Root c.args.segments.now in
+    exit found_seen c.from_residual.result c.in_err-found-in-Root.field-0.0 _ _ _ c.from_residual.ensures.1 (rw is c.in_err-found-in-Root.ensures.gives)
+
+pub found_from-returns-in_ok-add-in-Root-clause-gives : goal.found_from-returns-in_ok-add-in-Root-clause-gives
+found_from-returns-in_ok-add-in-Root-clause-gives g t c =
+    let is = ap (λ start. outcome_map found_in (found_all (setting_of (g.P.Patterns.patterns c.args.rx.now) c.args.root.now) c.args.current.now start c.args.segments.now)) c.in-Root.is ∙ found-from (setting_of (g.P.Patterns.patterns c.args.rx.now) c.args.root.now) c.args.current.now Root c.args.segments.now in
+    rw is c.in_ok-found-in-Root.ensures.gives
 
 pub hold_each-returns-in_err-bit-clause-gives : goal.hold_each-returns-in_err-bit-clause-gives
 hold_each-returns-in_err-bit-clause-gives g t c =
@@ -260,10 +296,30 @@ pub hold_each-loop-test-preserved : goal.hold_each-loop-test-preserved
 hold_each-loop-test-preserved g t c =
     let l = c.loop-test in
     let x : Test = c.test-item.result in
-    let cut : drop l.test-index c.as_slice-test-items.result.now ≡ x ∷ drop (l.test-index + 1) c.as_slice-test-items.result.now = grind (arith, common_steps) in (
+    let cut : drop l.test-index c.as_slice-test-items.result.now ≡ x ∷ drop (l.test-index + 1) c.as_slice-test-items.result.now = grind (arith, common_steps) in
+    let more : take (l.test-index + 1) c.as_slice-test-items.result.now ≡ take l.test-index c.as_slice-test-items.result.now ++ x ∷ [] = grind (arith, common_steps) in (
       tested_step (setting_of (g.P.Patterns.patterns c.args.rx.now) c.args.root.now) (setting_of (g.P.Patterns.patterns c.loop-test.rx) c.args.root.now) (same_setting (g.P.Patterns.patterns c.args.rx.now) (g.P.Patterns.patterns c.loop-test.rx) c.args.root.now c.loop-test.invariant.1) c.args.current.now (tested_all (setting_of (g.P.Patterns.patterns c.args.rx.now) c.args.root.now) c.args.current.now c.as_slice-test-items.result.now) l.all.items c.push.new.self.items x _ _ cut l.invariant.0 c.in_ok-bit.bit c.in_ok-push.ensures.items c.in_ok-bit.ensures.gives,
       asked_then _ _ _ l.invariant.1 c.in_ok-bit.ensures.asked,
+      tests_step (setting_of (g.P.Patterns.patterns c.args.rx.now) c.args.root.now) (setting_of (g.P.Patterns.patterns l.rx) c.args.root.now) (same_setting (g.P.Patterns.patterns c.args.rx.now) (g.P.Patterns.patterns l.rx) c.args.root.now l.invariant.1) c.as_slice-test-items.result.now (drop (l.test-index + 1) c.as_slice-test-items.result.now) x l.test-index (telling c.args.known.now) (telling l.known) l.invariant.2 (telling c.holds.new.known) more c.in_ok-bit.ensures.passed,
     )
+
+pub hold_each-loop-test-init : goal.hold_each-loop-test-init
+hold_each-loop-test-init g t c = (joined_begin _ (grind (arith, common_steps)) _, asked_same _, tests_begin (setting_of (g.P.Patterns.patterns c.args.rx.now) c.args.root.now) c.as_slice-test-items.result.now (telling c.args.known.now))
+
+pub hold_each-holds-requires : goal.hold_each-holds-requires
+hold_each-holds-requires g t c =
+    let l = c.loop-test in
+    let x : Test = c.test-item.result in
+    let whole : c.as_slice-test-items.result.now ≡ c.args.tests.now = c.as_slice-test-items.ensures in
+    let cut : drop l.test-index c.as_slice-test-items.result.now ≡ x ∷ drop (l.test-index + 1) c.as_slice-test-items.result.now = grind (arith, common_steps) in
+    λ κs le. (search (rules, the_lemmas), (search rules, tests_fit (setting_of (g.P.Patterns.patterns c.args.rx.now) c.args.root.now) (setting_of (g.P.Patterns.patterns l.rx) c.args.root.now) (same_setting (g.P.Patterns.patterns c.args.rx.now) (g.P.Patterns.patterns l.rx) c.args.root.now l.invariant.1) c.as_slice-test-items.result.now (drop (l.test-index + 1) c.as_slice-test-items.result.now) x l.test-index (telling c.args.known.now) (telling l.known) l.invariant.2 cut (subst (λ ts. Fits (setting_of (g.P.Patterns.patterns c.args.rx.now) c.args.root.now) (queries_of_tests ts) (telling c.args.known.now).1) (sym whole) c.requires)))
+
+pub hold_each-returns-clause-passed : goal.hold_each-returns-clause-passed
+hold_each-returns-clause-passed g t c =
+    let l = c.loop-test in
+    let whole : c.as_slice-test-items.result.now ≡ c.args.tests.now = c.as_slice-test-items.ensures in
+    let none : drop l.test-index c.as_slice-test-items.result.now ≡ [] = grind (arith, common_steps) in
+    rw (← whole) (tests_end (setting_of (g.P.Patterns.patterns c.args.rx.now) c.args.root.now) c.as_slice-test-items.result.now l.test-index (telling c.args.known.now) (telling l.known) none l.invariant.2)
 
 pub hold_each-returns-clause-gives : goal.hold_each-returns-clause-gives
 hold_each-returns-clause-gives g t c =
@@ -391,3 +447,90 @@ value_of-returns-in_ok-worth-in-Length-clause-gives g t c =
     ∙ ap (λ o. outcome_map length_of (operand_meaning o (setting_of (g.P.Patterns.patterns c.args.rx.now) c.args.root.now) c.args.current.now)) (sym c.get.ensures) in
     let value : worth_seen c.length_of.result ≡ length_of (worth_seen c.in_ok-worth-in-Length.worth) = grind (arith, common_steps) in
     rw (is, value) (through_map length_of _ _ c.in_ok-worth-in-Length.ensures.gives)
+
+pub holds-hold_each-requires : goal.holds-hold_each-requires
+holds-hold_each-requires g t c = λ κs le. (search (rules, the_lemmas), (search rules, subst (λ qs. Fits (setting_of (g.P.Patterns.patterns c.args.rx.now) c.args.root.now) qs (telling c.args.known.now).1) (ap queries_of_test c.in-Any.is ∙ queries-Any c.in-Any.tests) c.requires))
+
+pub holds-returns-in_ok-hold_each-in-Any-clause-passed : goal.holds-returns-in_ok-hold_each-in-Any-clause-passed
+holds-returns-in_ok-hold_each-in-Any-clause-passed g t c = subst (λ qs. Passed (setting_of (g.P.Patterns.patterns c.args.rx.now) c.args.root.now) qs (telling c.args.known.now) (telling c.hold_each.new.known)) (sym (ap queries_of_test c.in-Any.is ∙ queries-Any c.in-Any.tests)) c.in_ok-hold_each-in-Any.ensures.passed
+
+pub holds-hold_each-requires-in-All : goal.holds-hold_each-requires-in-All
+holds-hold_each-requires-in-All g t c = λ κs le. (search (rules, the_lemmas), (search rules, subst (λ qs. Fits (setting_of (g.P.Patterns.patterns c.args.rx.now) c.args.root.now) qs (telling c.args.known.now).1) (ap queries_of_test c.in-All.is ∙ queries-All c.in-All.tests) c.requires))
+
+pub holds-returns-in_ok-hold_each-in-All-clause-passed : goal.holds-returns-in_ok-hold_each-in-All-clause-passed
+holds-returns-in_ok-hold_each-in-All-clause-passed g t c = subst (λ qs. Passed (setting_of (g.P.Patterns.patterns c.args.rx.now) c.args.root.now) qs (telling c.args.known.now) (telling c.hold_each-in-All.new.known)) (sym (ap queries_of_test c.in-All.is ∙ queries-All c.in-All.tests)) c.in_ok-hold_each-in-All.ensures.passed
+
+pub holds-holds-requires : goal.holds-holds-requires
+holds-holds-requires g t c = λ κs le. (search (rules, the_lemmas), (search rules, subst (λ qs. Fits (setting_of (g.P.Patterns.patterns c.args.rx.now) c.args.root.now) qs (telling c.args.known.now).1) (ap queries_of_test c.in-Not.is ∙ queries-Not c.in-Not.test ∙ ap queries_of_test (sym c.get.ensures)) c.requires))
+
+pub holds-returns-in_ok-holds-in-Not-clause-passed : goal.holds-returns-in_ok-holds-in-Not-clause-passed
+holds-returns-in_ok-holds-in-Not-clause-passed g t c = subst (λ qs. Passed (setting_of (g.P.Patterns.patterns c.args.rx.now) c.args.root.now) qs (telling c.args.known.now) (telling c.holds.new.known)) (sym (ap queries_of_test c.in-Not.is ∙ queries-Not c.in-Not.test ∙ ap queries_of_test (sym c.get.ensures))) c.in_ok-holds-in-Not.ensures.passed
+
+pub holds-found_from-requires : goal.holds-found_from-requires
+holds-found_from-requires g t c = λ κs le. (search (rules, the_lemmas), (search rules, subst (λ qs. Fits (setting_of (g.P.Patterns.patterns c.args.rx.now) c.args.root.now) qs (telling c.args.known.now).1) (ap queries_of_test c.in-Exists.is ∙ queries-Exists c.in-Exists.start c.in-Exists.segments) c.requires))
+
+pub holds-returns-in_ok-found-in-Exists-clause-passed : goal.holds-returns-in_ok-found-in-Exists-clause-passed
+holds-returns-in_ok-found-in-Exists-clause-passed g t c = subst (λ qs. Passed (setting_of (g.P.Patterns.patterns c.args.rx.now) c.args.root.now) qs (telling c.args.known.now) (telling c.found_from.new.known)) (sym (ap queries_of_test c.in-Exists.is ∙ queries-Exists c.in-Exists.start c.in-Exists.segments)) c.in_ok-found-in-Exists.ensures.passed
+
+pub value_of-found_from-requires : goal.value_of-found_from-requires
+value_of-found_from-requires g t c = λ κs le. (search (rules, the_lemmas), (search rules, subst (λ qs. Fits (setting_of (g.P.Patterns.patterns c.args.rx.now) c.args.root.now) qs (telling c.args.known.now).1) (ap queries_of_operand c.in-Query.is ∙ queries-Query c.in-Query.start c.in-Query.segments) c.requires))
+
+pub value_of-returns-in_ok-found-in-Query-clause-passed : goal.value_of-returns-in_ok-found-in-Query-clause-passed
+value_of-returns-in_ok-found-in-Query-clause-passed g t c = subst (λ qs. Passed (setting_of (g.P.Patterns.patterns c.args.rx.now) c.args.root.now) qs (telling c.args.known.now) (telling c.found_from.new.known)) (sym (ap queries_of_operand c.in-Query.is ∙ queries-Query c.in-Query.start c.in-Query.segments)) c.in_ok-found-in-Query.ensures.passed
+
+pub value_of-value_of-requires : goal.value_of-value_of-requires
+value_of-value_of-requires g t c = λ κs le. (search (rules, the_lemmas), (search rules, subst (λ qs. Fits (setting_of (g.P.Patterns.patterns c.args.rx.now) c.args.root.now) qs (telling c.args.known.now).1) (ap queries_of_operand c.in-Length.is ∙ queries-Length c.in-Length.operand ∙ ap queries_of_operand (sym c.get.ensures)) c.requires))
+
+pub value_of-returns-in_ok-worth-in-Length-clause-passed : goal.value_of-returns-in_ok-worth-in-Length-clause-passed
+value_of-returns-in_ok-worth-in-Length-clause-passed g t c = subst (λ qs. Passed (setting_of (g.P.Patterns.patterns c.args.rx.now) c.args.root.now) qs (telling c.args.known.now) (telling c.value_of.new.known)) (sym (ap queries_of_operand c.in-Length.is ∙ queries-Length c.in-Length.operand ∙ ap queries_of_operand (sym c.get.ensures))) c.in_ok-worth-in-Length.ensures.passed
+
+pub value_of-found_from-requires-in-Count : goal.value_of-found_from-requires-in-Count
+value_of-found_from-requires-in-Count g t c = λ κs le. (search (rules, the_lemmas), (search rules, subst (λ qs. Fits (setting_of (g.P.Patterns.patterns c.args.rx.now) c.args.root.now) qs (telling c.args.known.now).1) (ap queries_of_operand c.in-Count.is ∙ queries-Count c.in-Count.start c.in-Count.segments) c.requires))
+
+pub value_of-returns-in_ok-found-in-Count-clause-passed : goal.value_of-returns-in_ok-found-in-Count-clause-passed
+value_of-returns-in_ok-found-in-Count-clause-passed g t c = subst (λ qs. Passed (setting_of (g.P.Patterns.patterns c.args.rx.now) c.args.root.now) qs (telling c.args.known.now) (telling c.found_from-in-Count.new.known)) (sym (ap queries_of_operand c.in-Count.is ∙ queries-Count c.in-Count.start c.in-Count.segments)) c.in_ok-found-in-Count.ensures.passed
+
+pub value_of-found_from-requires-in-Value : goal.value_of-found_from-requires-in-Value
+value_of-found_from-requires-in-Value g t c = λ κs le. (search (rules, the_lemmas), (search rules, subst (λ qs. Fits (setting_of (g.P.Patterns.patterns c.args.rx.now) c.args.root.now) qs (telling c.args.known.now).1) (ap queries_of_operand c.in-Value.is ∙ queries-Value c.in-Value.start c.in-Value.segments) c.requires))
+
+pub value_of-returns-in_ok-found-in-Value-clause-passed : goal.value_of-returns-in_ok-found-in-Value-clause-passed
+value_of-returns-in_ok-found-in-Value-clause-passed g t c = subst (λ qs. Passed (setting_of (g.P.Patterns.patterns c.args.rx.now) c.args.root.now) qs (telling c.args.known.now) (telling c.found_from-in-Value.new.known)) (sym (ap queries_of_operand c.in-Value.is ∙ queries-Value c.in-Value.start c.in-Value.segments)) c.in_ok-found-in-Value.ensures.passed
+
+pub value_of-returns-in-Null-clause-passed : goal.value_of-returns-in-Null-clause-passed
+value_of-returns-in-Null-clause-passed g t c = subst (λ qs. Passed (setting_of (g.P.Patterns.patterns c.args.rx.now) c.args.root.now) qs (telling c.args.known.now) (telling c.args.known.now)) (sym (ap queries_of_operand c.in-Null.is ∙ queries-Null)) (passed_none (setting_of (g.P.Patterns.patterns c.args.rx.now) c.args.root.now) (telling c.args.known.now))
+
+pub value_of-returns-in-Flag-clause-passed : goal.value_of-returns-in-Flag-clause-passed
+value_of-returns-in-Flag-clause-passed g t c = subst (λ qs. Passed (setting_of (g.P.Patterns.patterns c.args.rx.now) c.args.root.now) qs (telling c.args.known.now) (telling c.args.known.now)) (sym (ap queries_of_operand c.in-Flag.is ∙ queries-Flag c.in-Flag.b)) (passed_none (setting_of (g.P.Patterns.patterns c.args.rx.now) c.args.root.now) (telling c.args.known.now))
+
+pub value_of-returns-in-Int-clause-passed : goal.value_of-returns-in-Int-clause-passed
+value_of-returns-in-Int-clause-passed g t c = subst (λ qs. Passed (setting_of (g.P.Patterns.patterns c.args.rx.now) c.args.root.now) qs (telling c.args.known.now) (telling c.args.known.now)) (sym (ap queries_of_operand c.in-Int.is ∙ queries-Int c.in-Int.n)) (passed_none (setting_of (g.P.Patterns.patterns c.args.rx.now) c.args.root.now) (telling c.args.known.now))
+
+pub value_of-returns-in-Text-clause-passed : goal.value_of-returns-in-Text-clause-passed
+value_of-returns-in-Text-clause-passed g t c = subst (λ qs. Passed (setting_of (g.P.Patterns.patterns c.args.rx.now) c.args.root.now) qs (telling c.args.known.now) (telling c.args.known.now)) (sym (ap queries_of_operand c.in-Text.is ∙ queries-Text c.in-Text.text)) (passed_none (setting_of (g.P.Patterns.patterns c.args.rx.now) c.args.root.now) (telling c.args.known.now))
+
+pub holds-value_of-requires : goal.holds-value_of-requires
+holds-value_of-requires g t c = λ κs le. (search (rules, the_lemmas), (search rules, fits_first (setting_of (g.P.Patterns.patterns c.args.rx.now) c.args.root.now) (queries_of_operand c.in-Compare.left) (queries_of_operand c.in-Compare.right) (telling c.args.known.now).1 (subst (λ qs. Fits (setting_of (g.P.Patterns.patterns c.args.rx.now) c.args.root.now) qs (telling c.args.known.now).1) (ap queries_of_test c.in-Compare.is ∙ queries-Compare c.in-Compare.left c.in-Compare.comparison c.in-Compare.right) c.requires)))
+
+pub holds-value_of-requires-in-Compare : goal.holds-value_of-requires-in-Compare
+holds-value_of-requires-in-Compare g t c = λ κs le. (search (rules, the_lemmas), (search rules, fits_then (setting_of (g.P.Patterns.patterns c.args.rx.now) c.args.root.now) (setting_of (g.P.Patterns.patterns c.value_of.new.rx) c.args.root.now) (same_setting (g.P.Patterns.patterns c.args.rx.now) (g.P.Patterns.patterns c.value_of.new.rx) c.args.root.now c.in_ok-left-in-Compare.ensures.asked) (queries_of_operand c.in-Compare.left) (queries_of_operand c.in-Compare.right) (telling c.args.known.now) (telling c.value_of.new.known) (subst (λ qs. Fits (setting_of (g.P.Patterns.patterns c.args.rx.now) c.args.root.now) qs (telling c.args.known.now).1) (ap queries_of_test c.in-Compare.is ∙ queries-Compare c.in-Compare.left c.in-Compare.comparison c.in-Compare.right) c.requires) c.in_ok-left-in-Compare.ensures.passed))
+
+pub holds-returns-in_ok-right-in-Compare-clause-passed : goal.holds-returns-in_ok-right-in-Compare-clause-passed
+holds-returns-in_ok-right-in-Compare-clause-passed g t c = subst (λ qs. Passed (setting_of (g.P.Patterns.patterns c.args.rx.now) c.args.root.now) qs (telling c.args.known.now) (telling c.value_of-in-Compare.new.known)) (sym (ap queries_of_test c.in-Compare.is ∙ queries-Compare c.in-Compare.left c.in-Compare.comparison c.in-Compare.right)) (passed_then (setting_of (g.P.Patterns.patterns c.args.rx.now) c.args.root.now) (setting_of (g.P.Patterns.patterns c.value_of.new.rx) c.args.root.now) (same_setting (g.P.Patterns.patterns c.args.rx.now) (g.P.Patterns.patterns c.value_of.new.rx) c.args.root.now c.in_ok-left-in-Compare.ensures.asked) (queries_of_operand c.in-Compare.left) (queries_of_operand c.in-Compare.right) (telling c.args.known.now) (telling c.value_of.new.known) (telling c.value_of-in-Compare.new.known) c.in_ok-left-in-Compare.ensures.passed c.in_ok-right-in-Compare.ensures.passed)
+
+pub holds-value_of-requires-in-Match : goal.holds-value_of-requires-in-Match
+holds-value_of-requires-in-Match g t c = λ κs le. (search (rules, the_lemmas), (search rules, fits_first (setting_of (g.P.Patterns.patterns c.args.rx.now) c.args.root.now) (queries_of_operand c.in-Match.text) (queries_of_operand c.in-Match.pattern) (telling c.args.known.now).1 (subst (λ qs. Fits (setting_of (g.P.Patterns.patterns c.args.rx.now) c.args.root.now) qs (telling c.args.known.now).1) (ap queries_of_test c.in-Match.is ∙ queries-Match c.in-Match.text c.in-Match.pattern) c.requires)))
+
+pub holds-value_of-requires-in-Match-2 : goal.holds-value_of-requires-in-Match-2
+holds-value_of-requires-in-Match-2 g t c = λ κs le. (search (rules, the_lemmas), (search rules, fits_then (setting_of (g.P.Patterns.patterns c.args.rx.now) c.args.root.now) (setting_of (g.P.Patterns.patterns c.value_of-in-Match.new.rx) c.args.root.now) (same_setting (g.P.Patterns.patterns c.args.rx.now) (g.P.Patterns.patterns c.value_of-in-Match.new.rx) c.args.root.now c.in_ok-text-in-Match.ensures.asked) (queries_of_operand c.in-Match.text) (queries_of_operand c.in-Match.pattern) (telling c.args.known.now) (telling c.value_of-in-Match.new.known) (subst (λ qs. Fits (setting_of (g.P.Patterns.patterns c.args.rx.now) c.args.root.now) qs (telling c.args.known.now).1) (ap queries_of_test c.in-Match.is ∙ queries-Match c.in-Match.text c.in-Match.pattern) c.requires) c.in_ok-text-in-Match.ensures.passed))
+
+pub holds-returns-in_ok-pattern-in-Match-clause-passed : goal.holds-returns-in_ok-pattern-in-Match-clause-passed
+holds-returns-in_ok-pattern-in-Match-clause-passed g t c = on_ok _ (subst (λ qs. Passed (setting_of (g.P.Patterns.patterns c.args.rx.now) c.args.root.now) qs (telling c.args.known.now) (telling c.value_of-in-Match-2.new.known)) (sym (ap queries_of_test c.in-Match.is ∙ queries-Match c.in-Match.text c.in-Match.pattern)) (passed_then (setting_of (g.P.Patterns.patterns c.args.rx.now) c.args.root.now) (setting_of (g.P.Patterns.patterns c.value_of-in-Match.new.rx) c.args.root.now) (same_setting (g.P.Patterns.patterns c.args.rx.now) (g.P.Patterns.patterns c.value_of-in-Match.new.rx) c.args.root.now c.in_ok-text-in-Match.ensures.asked) (queries_of_operand c.in-Match.text) (queries_of_operand c.in-Match.pattern) (telling c.args.known.now) (telling c.value_of-in-Match.new.known) (telling c.value_of-in-Match-2.new.known) c.in_ok-text-in-Match.ensures.passed c.in_ok-pattern-in-Match.ensures.passed))
+
+pub holds-value_of-requires-in-Search : goal.holds-value_of-requires-in-Search
+holds-value_of-requires-in-Search g t c = λ κs le. (search (rules, the_lemmas), (search rules, fits_first (setting_of (g.P.Patterns.patterns c.args.rx.now) c.args.root.now) (queries_of_operand c.in-Search.text) (queries_of_operand c.in-Search.pattern) (telling c.args.known.now).1 (subst (λ qs. Fits (setting_of (g.P.Patterns.patterns c.args.rx.now) c.args.root.now) qs (telling c.args.known.now).1) (ap queries_of_test c.in-Search.is ∙ queries-Search c.in-Search.text c.in-Search.pattern) c.requires)))
+
+pub holds-value_of-requires-in-Search-2 : goal.holds-value_of-requires-in-Search-2
+holds-value_of-requires-in-Search-2 g t c = λ κs le. (search (rules, the_lemmas), (search rules, fits_then (setting_of (g.P.Patterns.patterns c.args.rx.now) c.args.root.now) (setting_of (g.P.Patterns.patterns c.value_of-in-Search.new.rx) c.args.root.now) (same_setting (g.P.Patterns.patterns c.args.rx.now) (g.P.Patterns.patterns c.value_of-in-Search.new.rx) c.args.root.now c.in_ok-text-in-Search.ensures.asked) (queries_of_operand c.in-Search.text) (queries_of_operand c.in-Search.pattern) (telling c.args.known.now) (telling c.value_of-in-Search.new.known) (subst (λ qs. Fits (setting_of (g.P.Patterns.patterns c.args.rx.now) c.args.root.now) qs (telling c.args.known.now).1) (ap queries_of_test c.in-Search.is ∙ queries-Search c.in-Search.text c.in-Search.pattern) c.requires) c.in_ok-text-in-Search.ensures.passed))
+
+pub holds-returns-in_ok-pattern-in-Search-clause-passed : goal.holds-returns-in_ok-pattern-in-Search-clause-passed
+holds-returns-in_ok-pattern-in-Search-clause-passed g t c = on_ok _ (subst (λ qs. Passed (setting_of (g.P.Patterns.patterns c.args.rx.now) c.args.root.now) qs (telling c.args.known.now) (telling c.value_of-in-Search-2.new.known)) (sym (ap queries_of_test c.in-Search.is ∙ queries-Search c.in-Search.text c.in-Search.pattern)) (passed_then (setting_of (g.P.Patterns.patterns c.args.rx.now) c.args.root.now) (setting_of (g.P.Patterns.patterns c.value_of-in-Search.new.rx) c.args.root.now) (same_setting (g.P.Patterns.patterns c.args.rx.now) (g.P.Patterns.patterns c.value_of-in-Search.new.rx) c.args.root.now c.in_ok-text-in-Search.ensures.asked) (queries_of_operand c.in-Search.text) (queries_of_operand c.in-Search.pattern) (telling c.args.known.now) (telling c.value_of-in-Search.new.known) (telling c.value_of-in-Search-2.new.known) c.in_ok-text-in-Search.ensures.passed c.in_ok-pattern-in-Search.ensures.passed))

@@ -1,10 +1,11 @@
-use Rattle.std.proofs.Common.{◌≡◌, ◌≤◌, ◌∷◌, [], drop, map, length}
+use Rattle.std.proofs.Common.{◌≡◌, ◌≤◌, ◌∷◌, ◌++◌, [], take, drop, map, length}
 use Rattle.arz_path.specs.Outcome.{each, Covers}
 use Rattle.arz_path.specs.Tree.{children}
 use Rattle.arz_path.specs.Selected.{widest}
 use Rattle.arz_path.specs.Spots.{joined, grown, sifted, chosen_at, chosen_each, reached, spots_after_all}
 use Rattle.arz_path.specs.Seen.{seen, coming, way, ahead, tested_all}
 use Rattle.arz_path.specs.Results.{Asked, setting_of}
+use Rattle.arz_path.specs.Absolute.{telling, queries_of_test, queries_of_tests, Fits, Passed}
 use Rattle.arz_path.proofs.evaluate.+evaluate.Given as goal
 
 -- what is left to do, from what stands there, is the whole
@@ -47,6 +48,7 @@ invariant-sift-children g l =
     × Asked (g.P.Patterns.patterns l.fn.rx) (g.P.Patterns.patterns l.rx)
     × (length l.out.items ≤ widest)
     × (way l.walk ≡ way l.fn.walk)
+    × Fits setting (queries_of_test l.test) ((telling l.known).0 ++ (telling l.known).1)
 
 abbrev pub decreases-sift-children : goal.decreases-sift-children
 decreases-sift-children g l = length (coming l.children)
@@ -56,3 +58,4 @@ invariant-hold_each-loop-test g l =
     let setting = setting_of (g.P.Patterns.patterns l.fn.rx) l.root in
     Covers (tested_all setting l.current l.test-items) (joined l.all.items (tested_all setting l.current (drop l.test-index l.test-items)))
     × Asked (g.P.Patterns.patterns l.fn.rx) (g.P.Patterns.patterns l.rx)
+    × Passed setting (queries_of_tests (take l.test-index l.test-items)) (telling l.fn.known) (telling l.known)
