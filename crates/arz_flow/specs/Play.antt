@@ -7,7 +7,7 @@ use Rattle.arz_flow.specs.declared.answers.Ask.{Ask}
 use Rattle.arz_flow.specs.declared.answers.Ask.TheVariants.{Send, Wait}
 use Rattle.arz_flow.specs.declared.answers.Answer.{Answer}
 use Rattle.arz_request.specs.declared.cause.Cause.{Cause}
-pub use Rattle.arz_scope.specs.Scopes.{Completion}
+pub use Rattle.arz_scope.specs.declared.facts.Completion.{Completion}
 use Rattle.arz_flow.specs.declared.answers.Spot.{Spot}
 use Rattle.arz_flow.specs.declared.answers.Answer.TheVariants.{Reply as Replied, Served}
 

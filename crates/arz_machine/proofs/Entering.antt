@@ -93,13 +93,13 @@ module _ (b : Bundle) (facts : List Fact) (read step : Json) (same : read ≡ st
   -- the request that is made of the step that was read
   pub requested_as : (s : Speaking) (e : Endpoint) (gs : List Given) (body : Option Body) → s ≡ spoken b facts None → e ≡ endpoint_of b read
       → gs ≡ given_to b (workflow_named b.workflow b.arazzo) read → body ≡ body_of read
-      → request (found (spoken_run s) (attempt_of s.exchange)) e.operation e.server gs body ≡ request_in b facts step
+      → request (found (spoken_run s) (attempt_of s.exchange s.inner)) e.operation e.server gs body ≡ request_in b facts step
   unfolding spoken
   requested_as s e gs body speaks calls gives has =
       let here = found (surroundings b (run_of b facts) []) Nothing in
       let workflow = workflow_named b.workflow b.arazzo in
       let end = endpoint_of b read in
-      ap (λ (z : Speaking). request (found (spoken_run z) (attempt_of z.exchange)) e.operation e.server gs body) speaks
+      ap (λ (z : Speaking). request (found (spoken_run z) (attempt_of z.exchange z.inner)) e.operation e.server gs body) speaks
       ∙ ap (λ (z : Endpoint). request here z.operation z.server gs body) calls
       ∙ ap (λ (z : List Given). request here end.operation end.server z body) gives
       ∙ ap (λ (z : Option Body). request here end.operation end.server (given_to b workflow read) z) has
@@ -111,13 +111,13 @@ module _ (b : Bundle) (facts : List Fact) (read step : Json) (same : read ≡ st
 
   -- the fact of the step that was read
   pub fact_as : (s : Speaking) (q : Request) (y : Reply) (id : List ℕ) (outputs : List Member) → s ≡ spoken b facts (Some (q, y)) → id ≡ text_at (codes "stepId") read
-      → outputs ≡ outputs_of (found (spoken_run s) (attempt_of s.exchange)) read → made_fact id outputs ≡ next_fact b facts step q y
+      → outputs ≡ outputs_of (found (spoken_run s) (attempt_of s.exchange s.inner)) read → made_fact id outputs ≡ next_fact b facts step q y
   unfolding spoken
   fact_as s q y id outputs speaks named given =
       let there = found (surroundings b (run_of b facts) []) (Exchange q y) in
       ap (λ z. made_fact z outputs) (named ∙ ap (text_at (codes "stepId")) same)
       ∙ ap (made_fact (text_at (codes "stepId") step))
-      (given ∙ ap (λ z. outputs_of (found (spoken_run z) (attempt_of z.exchange)) read) speaks ∙ ap (outputs_of there) same)
+      (given ∙ ap (λ z. outputs_of (found (spoken_run z) (attempt_of z.exchange z.inner)) read) speaks ∙ ap (outputs_of there) same)
 
   -- where a selection of a criterion of the step that was read is too wide
   pub wide_at : (at_read : Spot) → at_read ≡ spot (run_of b facts) read → Ended (Stuck TooWide at_read) ≡ widened b facts step
@@ -125,11 +125,11 @@ module _ (b : Bundle) (facts : List Fact) (read step : Json) (same : read ≡ st
 
   -- the verdict by the criteria that were read
   pub judged_as : (patterns : Patterned) (s : Speaking) (q : Request) (y : Reply) (tests : List Criterion) → s ≡ spoken b facts (Some (q, y)) → tests ≡ tests_of read
-      → judged patterns (found (spoken_run s) (attempt_of s.exchange)) y tests ≡ verdict_in patterns b facts step q y
+      → judged patterns (found (spoken_run s) (attempt_of s.exchange s.inner)) y tests ≡ verdict_in patterns b facts step q y
   unfolding spoken
   judged_as patterns s q y tests speaks listed =
       let there = found (surroundings b (run_of b facts) []) (Exchange q y) in
-      ap (λ (z : Speaking). judged patterns (found (spoken_run z) (attempt_of z.exchange)) y tests) speaks
+      ap (λ (z : Speaking). judged patterns (found (spoken_run z) (attempt_of z.exchange z.inner)) y tests) speaks
       ∙ ap (judged patterns there y) (listed ∙ ap tests_of same)
       ∙ judged_same patterns there y (criteria_of step)
 
@@ -142,20 +142,21 @@ pub given_if : {X E A : Type 0} (P : X → Type 0) (r : Result X E) → IfOk r (
 given_if P (Ok x) h a = h a
 given_if P (Err e) h a = h
 
-abbrev speaks_of : Bundle → List Member → List Fact → Option (Request × Reply) → Speaking
-speaks_of b inputs facts exchange = record { description = b.arazzo; inputs = inputs; facts = facts; exchange = exchange }
+abbrev speaks_of : Bundle → List Member → List Fact → Option (Request × Reply) → Option (List Member) → Speaking
+speaks_of b inputs facts exchange inner = record { description = b.arazzo; inputs = inputs; facts = facts; done = []; exchange = exchange; inner = inner }
 
--- the scope of the inputs and facts that were read
-pub as_spoken : {E : Type 0} (r : Result Speaking E) (b : Bundle) (facts : List Fact) (x : Option (Request × Reply)) (inputs : List Member) (read : List Fact) → inputs ≡ b.inputs → read ≡ facts
-    → IfOk r (λ s. s ≡ speaks_of b inputs read x) → IfOk r (λ s. s ≡ spoken b facts x)
+-- the scope of the inputs and facts that were read, and of what an attempt has of its own
+pub as_spoken : {E : Type 0} (r : Result Speaking E) (b : Bundle) (facts : List Fact) (x own : Option (Request × Reply)) (inner : Option (List Member)) (inputs : List Member) (read : List Fact) → inputs ≡ b.inputs → read ≡ facts → own ≡ x → inner ≡ None
+    → IfOk r (λ s. s ≡ speaks_of b inputs read own inner) → IfOk r (λ s. s ≡ spoken b facts x)
 unfolding spoken
-as_spoken (Ok s) b facts x inputs read i f h = h ∙ ap (λ l. speaks_of b l read x) i ∙ ap (λ l. speaks_of b b.inputs l x) f
-as_spoken (Err e) b facts x inputs read i f h = h
+as_spoken (Ok s) b facts x own inner inputs read i f e none h =
+    h ∙ ap (λ l. speaks_of b l read own inner) i ∙ ap (λ l. speaks_of b b.inputs l own inner) f ∙ ap (λ z. speaks_of b b.inputs facts z inner) e ∙ ap (speaks_of b b.inputs facts x) none
+as_spoken (Err z) b facts x own inner inputs read i f e none h = h
 
 -- the outputs of the workflow that was found
 pub outputs_as : {E : Type 0} (r : Result (List Member) E) (b : Bundle) (facts : List Fact) (s : Speaking) (w : Json) → s ≡ spoken b facts None → workflow_named b.workflow b.arazzo ≡ Some w
-    → IfOk r (λ given. given ≡ outputs_of (found (spoken_run s) (attempt_of s.exchange)) w) → IfOk r (λ given. given ≡ outputs_at_end b (run_of b facts) [])
+    → IfOk r (λ given. given ≡ outputs_of (found (spoken_run s) (attempt_of s.exchange s.inner)) w) → IfOk r (λ given. given ≡ outputs_at_end b (run_of b facts) [])
 unfolding spoken
 outputs_as (Ok given) b facts s w speaks there h =
-    h ∙ ap (λ z. outputs_of (found (spoken_run z) (attempt_of z.exchange)) w) speaks ∙ sym (ap (run_outputs b (run_of b facts) []) there)
+    h ∙ ap (λ z. outputs_of (found (spoken_run z) (attempt_of z.exchange z.inner)) w) speaks ∙ sym (ap (run_outputs b (run_of b facts) []) there)
 outputs_as (Err e) b facts s w speaks there h = h

@@ -1,10 +1,11 @@
 // The turns of a run: a step is entered, an attempt leaves its fact, the run is closed.
-ghost use Rattle.std.specs.Prelude.{◌≡◌, ℕ, ◌+◌, ◌<◌, ◌++◌, ◌∷◌, [], length, slice_get, true, IfOk, OnOk, OnErr, IsErrOf, Some};
+ghost use Rattle.std.specs.Prelude.{◌≡◌, ℕ, ◌+◌, ◌<◌, ◌++◌, ◌∷◌, [], length, slice_get, true, IfOk, OnOk, OnErr, IsErrOf, None, Some};
 ghost use Rattle.std.specs.Option.{option_copied};
 ghost use Rattle.arz_json.specs.declared.Json.{Json};
 ghost use Rattle.arz_json.specs.Answer.{Gives};
 ghost use Rattle.arz_json.specs.Tree.{IsWellFormed};
 ghost use Rattle.arz_request.specs.Causes.{told};
+ghost use Rattle.arz_scope.specs.Remembering.{exchange_in, inner_in};
 ghost use Rattle.arz_scope.specs.Shallow.{AreShallow, SendsShallow};
 ghost use Rattle.arz_flow.specs.Cases.{spot as spot_of, outputs_at_end};
 ghost use Rattle.arz_flow.specs.Valid.{IsValid};
@@ -30,7 +31,7 @@ use arz_flow::{Bundle, Cause, End, Fact, Spot, text_at};
 use arz_json::{Json, Many, Members, Text};
 use arz_request::{BuildFault, build};
 use arz_rx::Patterns;
-use arz_scope::{Exchange, RunScope, any_opaque, outputs};
+use arz_scope::{Exchange, Remembered, RunScope, Tried, any_opaque, outputs};
 use arz_world::{Reply, Request};
 use std::alloc::{AllocError, Global};
 
@@ -228,12 +229,18 @@ impl<'a> Run<'a> {
     {
         let bundle = self.bundle;
         let inputs = bundle.inputs.as_slice();
+        let remembered = Remembered {
+            facts: self.facts.as_slice(),
+            fact: None,
+            done: &[],
+            newly: &[],
+        };
         RunScope::new(
             self.alloc,
             &bundle.arazzo,
             inputs,
-            self.facts.as_slice(),
-            exchange,
+            remembered,
+            tried(exchange),
         )
     }
 
@@ -245,5 +252,16 @@ impl<'a> Run<'a> {
             workflow: Text::from_str(self.alloc, self.bundle.workflow.as_str())?,
             step: Some(Text::from_str(self.alloc, text_at(step, "stepId"))?),
         })
+    }
+}
+
+// What an attempt with this exchange has of its own.
+fn tried<'s>(exchange: Option<&'s Exchange<'s>>) -> Tried<'s>
+    ensures exchange { exchange_in result ≡ option_copied exchange.entry }
+    ensures inner { inner_in result ≡ None }
+{
+    match exchange {
+        Some(exchange) => Tried::Exchange(exchange),
+        None => Tried::Nothing,
     }
 }

@@ -1,12 +1,14 @@
 // What the expressions of a run speak of, and the outputs that they give.
 ghost use Rattle.std.specs.Prelude.{IfOk, All};
+ghost use Rattle.std.specs.Option.{ForSome, option_copied};
+ghost use Rattle.arz_scope.specs.Remembering.{IsShallowMemory, inner_in};
 ghost use Rattle.arz_scope.specs.Shallow.{AreShallow, HaveShallow, IsShallow, SendsShallow};
 
 use arz_cases::{Case, CaseFault, Outcome, brief, flag_word, text_of};
 use arz_expr::{Expr, value};
 use arz_flow::{Ask, End, Fact, ask_text, end_line};
 use arz_json::{Bytes, Json, Location, Many, Members, Text};
-use arz_scope::{Exchange, RunScope, any_opaque, outputs as outputs_of};
+use arz_scope::{Exchange, Remembered, RunScope, Tried, any_opaque, outputs as outputs_of};
 use arz_world::{Header, Reply, Request, Sent, Server};
 use std::alloc::{AllocError, Global};
 
@@ -14,7 +16,7 @@ use std::alloc::{AllocError, Global};
 /// and with an exchange where there is a `request`.
 pub fn scope(alloc: Global, case: &Case<'_>) -> Result<Outcome, CaseFault> {
     match case.member("request") {
-        None => seen(alloc, case, None),
+        None => seen(alloc, case, Tried::Nothing),
         Some(sent) => after_exchange(alloc, case, &case.inner(sent)),
     }
 }
@@ -34,20 +36,43 @@ fn seen_after(
     requires { SendsShallow request.now }
 {
     let exchange = Exchange::new(alloc, request, reply)?;
-    seen(alloc, case, Some(&exchange))
+    seen(alloc, case, Tried::Exchange(&exchange))
 }
 
-fn seen(
-    alloc: Global,
-    case: &Case<'_>,
-    exchange: Option<&Exchange<'_>>,
-) -> Result<Outcome, CaseFault> {
+fn seen(alloc: Global, case: &Case<'_>, tried: Tried<'_>) -> Result<Outcome, CaseFault>
+    requires { ForSome (inner_in tried) AreShallow }
+{
     let description = case.json(alloc, "description")?;
     let inputs = members(alloc, case, "inputs")?;
     let facts = facts(alloc, case)?;
     let inputs = inputs.as_slice();
-    let scope = RunScope::new(alloc, &description, inputs, facts.as_slice(), exchange)?;
+    let remembered = remembered(facts.as_slice());
+    let scope = RunScope::new(alloc, &description, inputs, remembered, tried)?;
     found(alloc, case, &scope)
+}
+
+// The last fact comes after the others.
+fn remembered(facts: &[Fact]) -> Remembered<'_>
+    requires { HaveShallow facts.now }
+    ensures { IsShallowMemory result }
+{
+    match facts {
+        [] => after(facts, None),
+        [earlier @ .., last] => after(earlier, Some(last)),
+    }
+}
+
+fn after<'a>(facts: &'a [Fact], fact: Option<&'a Fact>) -> Remembered<'a>
+    requires facts { HaveShallow facts.now }
+    requires fact { ForSome (option_copied fact) (λ f. AreShallow f.outputs) }
+    ensures { IsShallowMemory result }
+{
+    Remembered {
+        facts,
+        fact,
+        done: &[],
+        newly: &[],
+    }
 }
 
 fn found(alloc: Global, case: &Case<'_>, scope: &RunScope<'_>) -> Result<Outcome, CaseFault> {
@@ -66,7 +91,14 @@ fn found(alloc: Global, case: &Case<'_>, scope: &RunScope<'_>) -> Result<Outcome
 pub fn outputs(alloc: Global, case: &Case<'_>) -> Result<Outcome, CaseFault> {
     let listed = case.json(alloc, "listed")?;
     let inputs = members(alloc, case, "inputs")?;
-    let scope = RunScope::new(alloc, &Json::Null, inputs.as_slice(), &[], None)?;
+    let nothing = after(&[], None);
+    let scope = RunScope::new(
+        alloc,
+        &Json::Null,
+        inputs.as_slice(),
+        nothing,
+        Tried::Nothing,
+    )?;
     let given = outputs_of(alloc, &listed, &scope)?;
     let mut lines = String::new(alloc);
     for output in given.as_slice() {

@@ -3,6 +3,7 @@ pub mod Fields
 pub mod Kinds
 pub mod Outputs
 pub mod Prepared
+pub mod Remembering
 pub mod Scopes
 pub mod Shallow
 pub mod Sources

@@ -1,5 +1,5 @@
 -- What expressions speak of (Arazzo 1.0.1, 4.7): the value of each base, where a run stands.
-use Rattle.std.specs.Prelude.{ℕ, pos, ◌++◌, ◌&&◌, Bool, true, false, List, find, reverse, codes, Option, Some, None, option_map, option_and_then}
+use Rattle.std.specs.Prelude.{ℕ, pos, ◌++◌, ◌&&◌, not, Bool, true, false, List, [], ◌∷◌, find, filter, codes, Option, Some, None, option_map, option_and_then}
 use Rattle.std.specs.Str.{bytes_eq, str_eq_ignore_ascii_case}
 use Rattle.arz_json.specs.Look.{member_in}
 use Rattle.arz_json.specs.Pointer.{member_named}
@@ -14,20 +14,21 @@ use Rattle.arz_world.specs.declared.Request.{Request}
 use Rattle.arz_world.specs.declared.Sent.{Sent}
 use Rattle.arz_expr.specs.declared.syntax.Base.{Base}
 use Rattle.arz_expr.specs.declared.syntax.Base.TheVariants as base
+use Rattle.arz_scope.specs.declared.facts.Completion.{Completion}
 use Rattle.arz_scope.specs.declared.facts.Fact.{Fact}
 use Rattle.arz_scope.specs.Bodies.{header_field, body_value}
 use Rattle.arz_json.specs.Look.{text_at, items_at}
 
--- one completed run of a workflow
-pub record Completion : Type 0 where
-  pub workflow : List ℕ
-  pub inputs : List Member
-  pub outputs : List Member
-
--- what an attempt may speak of: its own request and reply, where it has them
+-- what an attempt may speak of: its own request and reply, or the outputs of the run that it made
 pub data Attempt : Type 0 where
   Nothing : Attempt
   Exchange : Request → Reply → Attempt
+  Inner : List Member → Attempt
+
+-- the outputs of an inner run
+abbrev pub ran : List Member → Base → Option Json
+ran outputs (base.Output name) = member_named outputs name
+ran outputs _ = None
 
 abbrev pub is_at : Location → Location → Bool
 is_at place.Path place.Path = true
@@ -63,14 +64,25 @@ exchanged q y _ = None
 abbrev pub attempted : Attempt → Base → Option Json
 attempted Nothing base = None
 attempted (Exchange q y) base = exchanged q y base
+attempted (Inner outputs) base = ran outputs base
 
--- the last fact of a step
-abbrev pub last_fact : List ℕ → List Fact → Option Fact
-last_fact step facts = find (λ f. bytes_eq f.step step) (reverse facts)
+-- ---- what is remembered of steps and of workflows: the last of each
 
--- the last completion of a workflow
-abbrev pub last_completion : List ℕ → List Completion → Option Completion
-last_completion workflow done = find (λ c. bytes_eq c.workflow workflow) (reverse done)
+-- the fact of a step
+abbrev pub fact_of : (step : List ℕ) → List Fact → Option Fact
+fact_of step facts = find (λ f. bytes_eq f.step step) facts
+
+-- a fact takes the place of the one that its step had
+abbrev pub with_fact : Fact → List Fact → List Fact
+with_fact fact facts = filter (λ f. not (bytes_eq f.step fact.step)) facts ++ fact ∷ []
+
+-- the completion of a workflow
+abbrev pub completion_of : (workflow : List ℕ) → List Completion → Option Completion
+completion_of workflow done = find (λ c. bytes_eq c.workflow workflow) done
+
+-- a completion takes the place of the one that its workflow had
+abbrev pub with_completion : Completion → List Completion → List Completion
+with_completion completion done = filter (λ c. not (bytes_eq c.workflow completion.workflow)) done ++ completion ∷ []
 
 -- a source description with this name
 abbrev pub source_named : List ℕ → Json → Option Json
@@ -81,7 +93,7 @@ abbrev pub or_openapi : Option Json → Option Json
 or_openapi None = Some (Text (codes "openapi"))
 or_openapi (Some type) = Some type
 
--- what a run has: the description, its inputs, the facts of its steps, and the completions of the execution
+-- what a run has: the description, its inputs, the facts of its steps, and the completions of the execution, the last of each step and workflow
 pub record Surroundings : Type 0 where
   pub description : Json
   pub inputs : List Member
@@ -91,10 +103,9 @@ pub record Surroundings : Type 0 where
 -- the value of each base, if it has one
 unfoldable pub found : Surroundings → Attempt → Base → Option Json
 found s a (base.Input name) = member_named s.inputs name
-found s a (base.Output name) = None
-found s a (base.StepOutput step name) = option_and_then (λ f. member_named f.outputs name) (last_fact step s.facts)
-found s a (base.WorkflowInput workflow name) = option_and_then (λ c. member_named c.inputs name) (last_completion workflow s.done)
-found s a (base.WorkflowOutput workflow name) = option_and_then (λ c. member_named c.outputs name) (last_completion workflow s.done)
+found s a (base.StepOutput step name) = option_and_then (λ f. member_named f.outputs name) (fact_of step s.facts)
+found s a (base.WorkflowInput workflow name) = option_and_then (λ c. member_named c.inputs name) (completion_of workflow s.done)
+found s a (base.WorkflowOutput workflow name) = option_and_then (λ c. member_named c.outputs name) (completion_of workflow s.done)
 found s a (base.SourceUrl name) = option_and_then (member_in (codes "url")) (source_named name s.description)
 found s a (base.SourceName name) = option_and_then (member_in (codes "name")) (source_named name s.description)
 found s a (base.SourceKind name) = option_and_then (λ d. or_openapi (member_in (codes "type") d)) (source_named name s.description)

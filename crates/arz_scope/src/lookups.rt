@@ -5,11 +5,10 @@ ghost use Rattle.arz_json.specs.Look.{member_in};
 ghost use Rattle.arz_json.specs.Pointer.{member_named};
 ghost use Rattle.std.specs.Str.{bytes_eq};
 ghost use Rattle.arz_json.specs.Look.{text_at as text_under};
-ghost use Rattle.arz_scope.specs.Scopes.{last_fact as last_fact_of, source_named as source_with, or_openapi};
-ghost use Rattle.arz_scope.specs.Shallow.{IsShallow, AreShallow, HaveShallow};
+ghost use Rattle.arz_scope.specs.Scopes.{source_named as source_with, or_openapi};
+ghost use Rattle.arz_scope.specs.Shallow.{IsShallow, AreShallow};
 ghost use Rattle.arz_scope.specs.Sources.{openapi as openapi_type};
 
-use crate::facts::Fact;
 use arz_json::{Json, Member, items_at, text_at, value_named};
 
 /// The value of the member with this name.
@@ -18,23 +17,6 @@ pub fn member_value<'a>(members: &'a [Member], name: &str) -> Option<&'a Json>
     ensures shallow { AreShallow members.now → IfSome result (λ value. IsShallow value.now) }
 {
     value_named(members, name)
-}
-
-// The last fact of a step.
-fn last_fact<'a>(facts: &'a [Fact], step: &str) -> Option<&'a Fact>
-    ensures value { option_copied result ≡ last_fact_of step.now facts.now }
-    ensures shallow { HaveShallow facts.now → IfSome result (λ fact. AreShallow fact.now.outputs) }
-{
-    facts.iter().rev().find(|fact| fact.step.as_str() == step)
-}
-
-/// An output of the last fact of a step.
-pub fn step_output<'a>(facts: &'a [Fact], step: &str, name: &str) -> Option<&'a Json>
-    ensures value { option_copied result ≡ option_and_then (λ f. member_named f.outputs name.now) (last_fact_of step.now facts.now) }
-    ensures shallow { HaveShallow facts.now → IfSome result (λ value. IsShallow value.now) }
-{
-    let fact = last_fact(facts, step)?;
-    member_value(fact.outputs.as_slice(), name)
 }
 
 // The source description with this name.

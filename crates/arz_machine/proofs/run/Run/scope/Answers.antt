@@ -11,4 +11,5 @@ pub new-requires-clause-inputs : goal.new-requires-clause-inputs
 new-requires-clause-inputs c = subst AreShallow (sym c.as_slice-inputs.ensures) (shallow_members c.args.self.now.bundle.now.inputs c.args.self.now.sound.inputs)
 
 pub returns : goal.returns
-returns c = as_spoken c.new.result c.args.self.now.bundle.now c.args.self.now.facts _ _ _ c.as_slice-inputs.ensures c.as_slice.ensures c.new.ensures
+returns c =
+    as_spoken c.new.result c.args.self.now.bundle.now c.args.self.now.facts _ _ _ _ _ c.as_slice-inputs.ensures c.as_slice.ensures c.tried.ensures.exchange c.tried.ensures.inner c.new.ensures
