@@ -1,0 +1,14 @@
+pub mod Below
+pub mod Grows
+pub mod Extends
+pub mod Bounded
+pub mod Fuel
+pub mod Scripts
+pub mod Steady
+pub mod Simple
+pub mod Budget
+pub mod Executions
+pub mod Standing
+pub mod Worked
+pub mod Examples
+pub mod Within

@@ -1,0 +1,10 @@
+pub mod Documents
+pub mod Requests
+pub mod Retries
+pub mod Verdicts
+pub mod Valid
+pub mod Play
+pub mod Cases
+pub mod Executions
+pub mod Laws
+pub mod Stands
