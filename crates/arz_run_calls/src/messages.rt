@@ -129,7 +129,7 @@ fn out_line(alloc: Global, seconds: u32, number: u32) -> Result<Bytes, AllocErro
     end_line(alloc, &End::Out(Ask::Wait(seconds)), number)
 }
 
-fn text(alloc: Global, text: &str) -> Result<Text, AllocError> {
+pub(crate) fn text(alloc: Global, text: &str) -> Result<Text, AllocError> {
     Ok(Text::from_std(String::from_str(alloc, text)?))
 }
 
@@ -208,7 +208,8 @@ fn sent(alloc: Global, item: &Case<'_>) -> Result<Sent, CaseFault>
     Ok(Sent { place, name, value })
 }
 
-fn reply(alloc: Global, case: &Case<'_>) -> Result<Reply, CaseFault> {
+/// The reply that a case describes by its `code`, `headers` and `body`.
+pub(crate) fn reply(alloc: Global, case: &Case<'_>) -> Result<Reply, CaseFault> {
     let status = u16::try_from(case.count("code")?).map_err(|_| CaseFault::Malformed("code"))?;
     let mut headers = Vec::new(alloc);
     for item in case.items("headers") {
