@@ -88,7 +88,8 @@ fn read_retry(alloc: Global, tree: &Json) -> Result<Act, AllocError>
     Ok(Act::Retry(seconds, limit, read_first(alloc, tree)?))
 }
 
-fn read_act(alloc: Global, tree: &Json) -> Result<Act, AllocError>
+/// What an action does (Arazzo 1.0.1, sections 4.6.7 and 4.6.8).
+pub fn read_act(alloc: Global, tree: &Json) -> Result<Act, AllocError>
     ensures { IfOk result (λ act. act ≡ act_of tree.now) }
 {
     match text_at(tree, "type") {

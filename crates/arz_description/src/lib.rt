@@ -12,6 +12,7 @@ mod requests;
 mod steps;
 mod whole;
 
+pub use actions::{meant, read_act};
 pub use arz_expr::{Body, Given, Replacement};
 pub use arz_operation::Call;
 pub use calls::{source_and_id, source_and_pointer};
