@@ -1,4 +1,4 @@
--- ---- for private clauses: sources as the code holds them, and what it finds in them
+-- Sources as the code holds them, and what it finds in them.
 use Rattle.std.specs.Prelude.{ℕ, List, [], ◌∷◌, Bool, Option, Some, None, option_map, option_and_then, find, map, Result, Ok, Err}
 use Rattle.std.specs.Option.{option_to_list}
 use Rattle.std.specs.List.{filter_map}

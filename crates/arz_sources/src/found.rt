@@ -10,7 +10,9 @@ use crate::sources::{Sources, read_sources};
 use arz_json::{Json, Named, NamedText};
 use std::alloc::{AllocError, Global};
 
-fn target<'s, 'a>(
+/// The operation that a step calls, with the URL that is given for its source; none where the step calls a workflow, or
+/// its call fails a rule (Arazzo 1.0.1, section 4.6.5).
+pub fn target_of<'s, 'a>(
     alloc: Global,
     sources: &Sources<'s, 'a>,
     step: &Json,
@@ -39,7 +41,7 @@ pub fn find_targets<'a>(
     let sources = Sources::of(alloc, list.as_slice())?;
     let mut found = Vec::with_capacity(alloc, steps.len())?;
     for step in steps {
-        found.push(target(alloc, &sources, step)?)?;
+        found.push(target_of(alloc, &sources, step)?)?;
     }
     Ok(found)
 }

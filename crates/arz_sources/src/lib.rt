@@ -17,5 +17,6 @@ mod sources;
 mod steps;
 
 pub use calls::Target;
-pub use found::find_targets;
+pub use found::{find_targets, target_of};
+pub use sources::{Source, Sources, read_sources};
 pub use steps::check_steps;

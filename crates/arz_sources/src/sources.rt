@@ -1,7 +1,9 @@
 // Source documents, found by their names.
 ghost use Rattle.std.specs.Prelude.{◌≡◌, IfOk, List, ℕ, map, option_map};
-ghost use Rattle.arz_openapi.specs.Targets.{given_server};
-ghost use Rattle.arz_sources.specs.Served.{served, seen_source, source_in_map, named_in};
+ghost use Rattle.arz_json.specs.declared.tree.Named.{Named};
+ghost use Rattle.arz_json.specs.declared.tree.NamedText.{NamedText};
+ghost use Rattle.arz_openapi.specs.Targets.{given_server, targets};
+ghost use Rattle.arz_sources.specs.Served.{served, seen_source, source_in_map, named_in, found_in};
 
 use arz_json::{Named, NamedText};
 use arz_openapi::Operations;
@@ -10,7 +12,7 @@ use std::collections::BTreeMap;
 
 /// A source document.
 #[derive(Drop)]
-pub(crate) struct Source<'a> {
+pub struct Source<'a> {
     /// Its name.
     pub name: &'a str,
     /// Its operations.
@@ -43,8 +45,9 @@ fn read_source<'a>(
     })
 }
 
-/// The sources, each with its operations and the URL that the setup gives for it.
-pub(crate) fn read_sources<'a>(
+/// The sources that stand under their names in the description (Arazzo 1.0.1, section 4.6.3), each with its operations
+/// and the URL that `servers` gives for it.
+pub fn read_sources<'a>(
     alloc: Global,
     sources: &'a [Named],
     servers: &'a [NamedText],
@@ -75,16 +78,17 @@ fn index<'s, 'a>(
 
 /// Sources in order, and by their names.
 #[derive(Drop)]
-pub(crate) struct Sources<'s, 'a> {
+pub struct Sources<'s, 'a> {
     pub list: &'s [Source<'a>],
     names: BTreeMap<&'s str, &'s Source<'a>>,
 }
 
 impl<'s, 'a> Sources<'s, 'a> {
     /// The sources, found by name in logarithmic time.
-    pub(crate) fn of(alloc: Global, list: &'s [Source<'a>]) -> Result<Sources<'s, 'a>, AllocError>
+    pub fn of(alloc: Global, list: &'s [Source<'a>]) -> Result<Sources<'s, 'a>, AllocError>
         ensures list { IfOk result (λ s. map seen_source s.list.now ≡ map seen_source list.now) }
         ensures names { IfOk result (λ s. (q : List ℕ) → source_in_map s.names q ≡ named_in (map seen_source list.now) q) }
+        ensures found { IfOk result (λ s. (sources : List Named) (servers : List NamedText) → map seen_source list.now ≡ map (served servers) sources → found_in s ≡ targets sources servers) }
     {
         let names = index(alloc, list)?;
         Ok(Sources { list, names })

@@ -1,0 +1,3 @@
+mod Trying
+pub mod Naming
+mod Sharing

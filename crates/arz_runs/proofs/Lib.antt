@@ -1,0 +1,11 @@
+mod Joining
+mod Asking
+mod Choices
+mod Filling
+mod Reading
+mod Planning
+mod Attempts
+mod Resting
+mod Dependencies
+mod Entering
+mod Resuming

@@ -1,0 +1,16 @@
+pub mod Joining
+pub mod Reached
+pub mod Readable
+pub mod ShallowRuns
+pub mod Planned
+pub mod Reading
+pub mod Grounds
+pub mod Runs
+pub mod Scenes
+pub mod Choosing
+pub mod Entries
+pub mod Rests
+pub mod Turns
+pub mod Trying
+pub mod Plain
+pub mod Fronts
